@@ -1,0 +1,10 @@
+pub mod Angles
+pub mod Faults
+pub mod Holding
+pub mod Inside
+pub mod Letters
+pub mod Places
+pub mod QuotedParts
+pub mod Quotes
+pub mod Trims
+pub mod WorkedBares

@@ -1,0 +1,4 @@
+pub mod Keep
+pub mod Model
+pub mod Laws
+pub mod Equivalences

@@ -1,0 +1,3 @@
+pub mod AddressLines
+pub mod Asking
+pub mod HexDigits
