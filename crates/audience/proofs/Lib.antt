@@ -1,0 +1,11 @@
+pub mod Members
+pub mod Bares
+pub mod Counted
+pub mod Granted
+pub mod First
+pub mod Positives
+pub mod Heard
+pub mod Bots
+pub mod Blanks
+pub mod Counters
+pub mod Examples

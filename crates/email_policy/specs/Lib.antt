@@ -1,0 +1,12 @@
+pub mod Policy
+pub mod Numbers
+pub mod Packing
+pub mod Ends
+pub mod Reading
+pub mod Keys
+pub mod Questions
+pub mod Law
+pub mod Lawful
+pub mod Reports
+pub mod Source
+pub mod Examples

@@ -1,0 +1,9 @@
+pub mod Clean
+pub mod Parts
+pub mod Readings
+pub mod Sized
+pub mod Standing
+pub mod Steps
+pub mod Tables
+pub mod Wholes
+pub mod Writes
