@@ -18,7 +18,13 @@ domain-shown part d e = ap (λ o. domain-word (mapped small o)) e ∙ ap domain-
 pub domain-absent : (part : Text) → None ≡ domain part → codes "none" ≡ domain-word (domain (small part))
 domain-absent part e = ap (λ o. domain-word (mapped small o)) e ∙ ap domain-word (sym (domain-small part))
 
--- seven pieces pushed one after the other
+-- pieces pushed one after the other
+pub pushed-two : (o₀ o₁ o₂ a b : List ℕ) → o₁ ≡ o₀ ++ a → o₂ ≡ o₁ ++ b → o₂ ≡ o₀ ++ (a ++ b)
+pushed-two o₀ o₁ o₂ a b p q = q ∙ ap (λ o. o ++ b) p ∙ append-assoc o₀ a b
+
+pub pushed-three : (o₀ o₁ o₂ o₃ a b c : List ℕ) → o₁ ≡ o₀ ++ a → o₂ ≡ o₁ ++ b → o₃ ≡ o₂ ++ c → o₃ ≡ o₀ ++ (a ++ (b ++ c))
+pushed-three o₀ o₁ o₂ o₃ a b c p q r = pushed-two o₀ o₁ o₃ a (b ++ c) p (pushed-two o₁ o₂ o₃ b c q r)
+
 pub pushed : (o₀ o₁ o₂ o₃ o₄ o₅ o₆ o₇ a b c d e f g : List ℕ) → o₁ ≡ o₀ ++ a → o₂ ≡ o₁ ++ b → o₃ ≡ o₂ ++ c → o₄ ≡ o₃ ++ d → o₅ ≡ o₄ ++ e → o₆ ≡ o₅ ++ f → o₇ ≡ o₆ ++ g → o₇ ≡ o₀ ++ (a ++ (b ++ (c ++ (d ++ (e ++ (f ++ g))))))
 pushed o₀ o₁ o₂ o₃ o₄ o₅ o₆ o₇ a b c d e f g p q r s t u v =
-    v ∙ ap (λ o. o ++ g) (u ∙ ap (λ o. o ++ f) (t ∙ ap (λ o. o ++ e) (s ∙ ap (λ o. o ++ d) (r ∙ ap (λ o. o ++ c) (q ∙ ap (λ o. o ++ b) p))))) ∙ simp append-assoc
+    pushed-three o₀ o₁ o₂ o₇ a b (c ++ (d ++ (e ++ (f ++ g)))) p q (pushed-three o₂ o₃ o₄ o₇ c d (e ++ (f ++ g)) r s (pushed-three o₄ o₅ o₆ o₇ e f g t u v))

@@ -1,3 +1,4 @@
 pub mod AddressLines
-pub mod Asking
 pub mod HexDigits
+pub mod Trays
+pub mod Writing

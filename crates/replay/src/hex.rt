@@ -30,8 +30,8 @@ fn value(c: u8) -> Option<u8>
     }
 }
 
-// The byte of two digits.
-fn pair(high: u8, low: u8) -> Option<u8>
+/// The byte of two digits.
+pub fn pair(high: u8, low: u8) -> Option<u8>
     ensures { λ r. ⌜ r ≡ byte-of (digit-value high) (digit-value low) ⌝ }
 {
     let h = value(high)?;

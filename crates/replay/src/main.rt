@@ -10,6 +10,7 @@ mod line;
 mod tests;
 mod turn;
 
+use answer::Books;
 use line::Outcome;
 use line::replay;
 use std::error::AnyError;
@@ -32,6 +33,7 @@ fn without_end(line: &[u8]) -> &[u8]
 fn run(rt: &LibcRuntime) -> Result<bool, AnyError> {
     let heap = rt.alloc();
     let mut input = BufReader::new(rt.stdin());
+    let mut books = Books { packed: None };
     let mut all = true;
     for number in 1..=u64::MAX {
         let mut line = Vec::new(heap);
@@ -39,7 +41,13 @@ fn run(rt: &LibcRuntime) -> Result<bool, AnyError> {
             break;
         }
         let mut out = Vec::new(heap);
-        match replay(heap, &mut out, number, without_end(line.as_slice())) {
+        match replay(
+            heap,
+            &mut books,
+            &mut out,
+            number,
+            without_end(line.as_slice()),
+        ) {
             Outcome::Done => {}
             Outcome::Unreadable => all = false,
             Outcome::NoMemoryLeft => return Err("there is no memory left".into()),

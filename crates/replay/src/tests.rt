@@ -1,3 +1,4 @@
+use crate::answer::Books;
 use crate::line::Outcome;
 use crate::line::OutcomeDebug;
 use crate::line::OutcomePartialEq;
@@ -5,7 +6,7 @@ use crate::line::replay;
 use std::test::*;
 
 // Each line with what becomes of it and what is printed.
-const LINES: [(&[u8], Outcome, &[u8]); 10] = [
+const LINES: [(&[u8], Outcome, &[u8]); 17] = [
     (b"", Outcome::Done, b""),
     (b"# address 61", Outcome::Done, b""),
     (
@@ -44,13 +45,41 @@ const LINES: [(&[u8], Outcome, &[u8]); 10] = [
         Outcome::Unreadable,
         b"unreadable 7: no such word\n",
     ),
+    (
+        b"write packed 8:ff",
+        Outcome::Unreadable,
+        b"unreadable 7: no packed book is open\n",
+    ),
+    (b"open 07000000", Outcome::Done, b"fault 16 book book 4\n"),
+    (
+        b"write packed 8:ff",
+        Outcome::Unreadable,
+        b"unreadable 7: no packed book is open\n",
+    ),
+    (b"open 070000000000", Outcome::Done, b"accepted\n"),
+    (
+        b"write packed 8:ff",
+        Outcome::Done,
+        b"answer 070000000000 tray 070000000000ffff\n",
+    ),
+    (
+        b"write live 8:ff",
+        Outcome::Unreadable,
+        b"unreadable 7: the source is not packed\n",
+    ),
+    (
+        b"write packed 8ff",
+        Outcome::Unreadable,
+        b"unreadable 7: the tray is not N:hh\n",
+    ),
 ];
 
 #[test]
 fn lines(rt: LibcRuntime) -> Result<(), Fail> {
+    let mut books = Books { packed: None };
     for (line, outcome, printed) in LINES {
         let mut out = Vec::new(rt.alloc());
-        check_eq(replay(rt.alloc(), &mut out, 7, line), outcome)?;
+        check_eq(replay(rt.alloc(), &mut books, &mut out, 7, line), outcome)?;
         check_eq(out.as_slice(), printed)?;
     }
     Ok(())

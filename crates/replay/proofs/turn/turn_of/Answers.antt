@@ -1,15 +1,19 @@
 use mathlib.Core.Logic.{inr}
-use mathlib.Core.Path.{sym, _∙_}
-use denote.Ref.{now}
-use Rattle.std.specs.Options.{mapped}
-use Rattle.replay.proofs.Asking.{asks-address, asks-wrongly, asks-nothing}
+use mathlib.Core.Path.{refl}
+use Rattle.replay.specs.Lines.{asked, Unless-memory}
+use Rattle.replay.proofs.Trays.{picked, passed}
 use Rattle.replay.proofs.turn.turn_of.Needs as need
 
-pub returns-in-Ok : need.returns-in-Ok
-returns-in-Ok c = asks-address (c .args .word .now) (mapped now (c .args .rest)) (sym (c .if-not-is-word .left) ∙ c .is-word .ensures) _ (c .in-Ok .ensures tt)
+pub returns-then-is-word : need.returns-then-is-word
+returns-then-is-word c = picked (Unless-memory asked (c .address-turn .result)) _ _ _ (c .if-is-word .ensures tt) (c .address-turn .ensures)
 
-pub returns-in-Err : need.returns-in-Err
-returns-in-Err c = asks-wrongly (c .args .word .now) (mapped now (c .args .rest)) (sym (c .if-not-is-word .left) ∙ c .is-word .ensures) _ (c .in-Err .ensures tt)
+pub returns-then-is-word-2 : need.returns-then-is-word-2
+returns-then-is-word-2 c =
+    passed (Unless-memory asked (c .open-turn .result)) _ _ _ (c .if-is-word .ensures tt)
+    (picked (Unless-memory asked (c .open-turn .result)) _ _ _ (c .if-is-word-2 .ensures tt) (c .open-turn .ensures))
 
-pub returns-then-not-is-word : need.returns-then-not-is-word
-returns-then-not-is-word c = inr (asks-nothing (c .args .word .now) (mapped now (c .args .rest)) (sym (c .if-not-is-word .taken) ∙ c .is-word .ensures))
+pub returns-then-is-word-3 : need.returns-then-is-word-3
+returns-then-is-word-3 c =
+    passed (Unless-memory asked (c .write-turn .result)) _ _ _ (c .if-is-word .ensures tt)
+    (passed (Unless-memory asked (c .write-turn .result)) _ _ _ (c .if-is-word-2 .ensures tt)
+    (picked (Unless-memory asked (c .write-turn .result)) _ _ _ (c .if-is-word-3 .ensures tt) (c .write-turn .ensures)))

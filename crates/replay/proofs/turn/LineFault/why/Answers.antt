@@ -16,3 +16,12 @@ returns-in-NotHex c = sym (ap why-text (c .in-NotHex .is))
 
 pub returns-in-NoMemory : need.returns-in-NoMemory
 returns-in-NoMemory c = sym (ap why-text (c .in-NoMemory .is))
+
+pub returns-in-NotTray : need.returns-in-NotTray
+returns-in-NotTray c = sym (ap why-text (c .in-NotTray .is))
+
+pub returns-in-NotSource : need.returns-in-NotSource
+returns-in-NotSource c = sym (ap why-text (c .in-NotSource .is))
+
+pub returns-in-NoPackedBook : need.returns-in-NoPackedBook
+returns-in-NoPackedBook c = sym (ap why-text (c .in-NoPackedBook .is))

@@ -1,0 +1,6 @@
+pub mod BookPacks
+pub mod Keys
+pub mod Puts
+pub mod Rows
+pub mod Views
+pub mod Walks

@@ -1,0 +1,10 @@
+pub mod Accepted
+pub mod BookReads
+pub mod Ends
+pub mod Laws
+pub mod Questions
+pub mod Reading
+pub mod Reports
+pub mod Rows
+pub mod Views
+pub mod Writing
