@@ -23,6 +23,20 @@ pub enum Layer {
     Router,
 }
 
+/// Which argument of a call a fault is about.
+#[derive(Clone, Copy, PartialEq, Eq, Debug)]
+pub enum Part {
+    To,
+    Cc,
+    Author,
+    Bot,
+    Scratch,
+    Tray,
+    Key,
+    Record,
+    Book,
+}
+
 /// The first fault of a packed record.
 #[derive(Clone, Copy, PartialEq, Eq, Debug)]
 pub enum RecordFault {

@@ -6,25 +6,31 @@ use crate::fault::Layer;
 use crate::fault::LayerDebug;
 use crate::fault::LayerEq;
 use crate::fault::LayerPartialEq;
+use crate::fault::Part;
+use crate::fault::PartDebug;
+use crate::fault::PartEq;
+use crate::fault::PartPartialEq;
 use crate::fault::PolicyFault;
 use crate::fault::RecordFault;
 use roll::RollFault;
 
-/// A fault's number, what it is about, and its offset in the caller's slice.
+/// A fault's number, what it is about, the argument, and the offset in that.
 #[derive(Clone, Copy, PartialEq, Eq, Debug)]
 pub struct Report {
     pub number: u8,
     pub layer: Layer,
+    pub part: Part,
     pub place: usize,
 }
 
 impl Report {
-    fn new(number: u8, layer: Layer, place: usize) -> Report
-        ensures { λ r. ⌜ r ≡ reported number layer place ⌝ }
+    fn new(number: u8, layer: Layer, part: Part, place: usize) -> Report
+        ensures { λ r. ⌜ r ≡ reported number layer part place ⌝ }
     {
         Report {
             number,
             layer,
+            part,
             place,
         }
     }
@@ -36,9 +42,14 @@ impl RecordFault {
         ensures { λ r. ⌜ r ≡ record-report (now (self .entry)) ⌝ }
     {
         match self {
-            RecordFault::InRoll(RollFault::InText(bad)) => Report::new(12, Layer::Text, bad.place),
-            RecordFault::InRoll(fault) => Report::new(11, Layer::Roll, fault.place()),
-            fault => Report::new(11, Layer::Record, fault.place()),
+            RecordFault::InRoll(RollFault::InText(bad)) => Report::new(
+                12,
+                Layer::Text,
+                Part::Record,
+                bad.place,
+            ),
+            RecordFault::InRoll(fault) => Report::new(11, Layer::Roll, Part::Record, fault.place()),
+            fault => Report::new(11, Layer::Record, Part::Record, fault.place()),
         }
     }
 }
@@ -49,11 +60,11 @@ impl KeyFault {
         ensures { λ r. ⌜ r ≡ key-report (now (self .entry)) ⌝ }
     {
         match self {
-            KeyFault::TooLong(at) => Report::new(7, Layer::Book, *at),
-            KeyFault::InText(fault) => Report::new(7, Layer::Text, fault.place),
-            KeyFault::NoAt(at) => Report::new(8, Layer::Book, *at),
-            KeyFault::Sides(at) => Report::new(9, Layer::Book, *at),
-            KeyFault::NoBare(at) => Report::new(10, Layer::Book, *at),
+            KeyFault::TooLong(at) => Report::new(7, Layer::Book, Part::Key, *at),
+            KeyFault::InText(fault) => Report::new(7, Layer::Text, Part::Key, fault.place),
+            KeyFault::NoAt(at) => Report::new(8, Layer::Book, Part::Key, *at),
+            KeyFault::Sides(at) => Report::new(9, Layer::Book, Part::Key, *at),
+            KeyFault::NoBare(at) => Report::new(10, Layer::Book, Part::Key, *at),
         }
     }
 }
@@ -66,7 +77,7 @@ impl PolicyFault {
         match self {
             PolicyFault::Key(fault) => fault.report(),
             PolicyFault::Record(fault) => fault.report(),
-            PolicyFault::OwnAddress(at) => Report::new(13, Layer::Book, *at),
+            PolicyFault::OwnAddress(at) => Report::new(13, Layer::Book, Part::Record, *at),
         }
     }
 }

@@ -71,6 +71,7 @@ fn keys() -> Result<(), Fail> {
             == Report {
                 number: 9,
                 layer: Layer::Book,
+                part: Part::Key,
                 place: 7,
             },
     )

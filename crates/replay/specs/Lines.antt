@@ -29,7 +29,9 @@ use Rattle.email_policy.specs.declared.fault.Layer.the-variants.{Text as InText
 use Rattle.email_policy.specs.declared.report.Report.{Report}
 use Rattle.packed_book.specs.Ends.{whole-book}
 use Rattle.packed_book.specs.Reading.{read-book}
-use Rattle.packed_book.specs.Reports.{open-report}
+use Rattle.email_policy.specs.declared.fault.Part.{Part}
+use Rattle.email_policy.specs.declared.fault.Part.the-variants.{To as the-to, Cc as the-cc, Author as the-author, Bot as the-bot, Scratch as the-scratch, Tray as the-tray, Key as the-key, Record as the-record, Book as the-book}
+use Rattle.packed_book.specs.Reports.{open-report, tray-report}
 use Rattle.packed_book.specs.Writing.{write-answer, write-tray}
 use Rattle.packed_book.specs.declared.fault.OpenFault.{OpenFault}
 use Rattle.packed_book.specs.declared.write.TrayTooShort.{TrayTooShort}
@@ -190,8 +192,19 @@ layer-word InRouter = codes "router"
 abbrev pub fault-words : ℕ → List ℕ → List ℕ → ℕ → List ℕ
 fault-words number layer part place = codes "fault " ++ (decimal number ++ (codes " " ++ (layer ++ (codes " " ++ (part ++ (codes " " ++ decimal place))))))
 
-abbrev pub reported-words : Report → List ℕ → List ℕ
-reported-words r part = fault-words (r .number) (layer-word (r .layer)) part (r .place)
+abbrev pub part-word : Part → List ℕ
+part-word the-to = codes "to"
+part-word the-cc = codes "cc"
+part-word the-author = codes "author"
+part-word the-bot = codes "bot"
+part-word the-scratch = codes "scratch"
+part-word the-tray = codes "tray"
+part-word the-key = codes "key"
+part-word the-record = codes "record"
+part-word the-book = codes "book"
+
+abbrev pub reported-words : Report → List ℕ
+reported-words r = fault-words (r .number) (layer-word (r .layer)) (part-word (r .part)) (r .place)
 
 -- the packed book that is open, if one is, by its bytes
 abbrev pub State : Type 0
@@ -204,7 +217,7 @@ pub record Given : Type 0 where
 
 abbrev pub opened-by : State → List ℕ → Result (Unit {0}) OpenFault → Given
 opened-by s book (Ok u) = record { printed = codes "accepted\n"; state = Some book }
-opened-by s book (Err f) = record { printed = reported-words (open-report f) (codes "book") ++ codes "\n"; state = s }
+opened-by s book (Err f) = record { printed = reported-words (open-report f) ++ codes "\n"; state = s }
 
 -- the tray after a call stands behind what it answered
 abbrev pub with-tray : List ℕ → List ℕ → List ℕ
@@ -213,7 +226,7 @@ with-tray said tray = said ++ (codes " tray " ++ (hex tray ++ codes "\n"))
 -- what a call that writes into a tray answered, by the tray after it
 abbrev pub said-of : List ℕ → Result ℕ TrayTooShort → List ℕ
 said-of tray (Ok n) = codes "answer " ++ hex (take n tray)
-said-of tray (Err e) = fault-words 6 (codes "router") (codes "tray") (e .needed)
+said-of tray (Err e) = reported-words (tray-report e)
 
 abbrev pub written-line : List ℕ → List ℕ → List ℕ
 written-line book tray = with-tray (said-of (write-tray book tray) (write-answer book tray)) (write-tray book tray)

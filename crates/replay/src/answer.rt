@@ -11,12 +11,13 @@ ghost use lib.ListN.{take};
 ghost use Rattle.std.specs.Of.String.{string-bytes};
 ghost use Rattle.packed_book.specs.Ends.{whole-book};
 ghost use Rattle.packed_book.specs.Reports.{open-report};
-ghost use Rattle.replay.specs.Lines.{address-line, domain-word, layer-word, fault-words, reported-words, with-tray, said-of, opened-by};
+ghost use Rattle.replay.specs.Lines.{address-line, domain-word, layer-word, part-word, fault-words, reported-words, with-tray, said-of, opened-by};
 ghost use Rattle.replay.specs.Turns.{opened, Turned, Written-out, Wrote};
 use crate::hex::push_hex;
 use address::address_part;
 use address::domain;
 use email_policy::Layer;
+use email_policy::Part;
 use email_policy::Report;
 use packed_book::OpenFault;
 use packed_book::PackedBookSource;
@@ -89,6 +90,22 @@ fn layer_name(layer: Layer) -> &'static str
     }
 }
 
+fn part_name(part: Part) -> &'static str
+    ensures { λ r. ⌜ now r ≡ part-word part ⌝ }
+{
+    match part {
+        Part::To => "to",
+        Part::Cc => "cc",
+        Part::Author => "author",
+        Part::Bot => "bot",
+        Part::Scratch => "scratch",
+        Part::Tray => "tray",
+        Part::Key => "key",
+        Part::Record => "record",
+        Part::Book => "book",
+    }
+}
+
 fn fault_text(
     heap: Global,
     number: u8,
@@ -101,16 +118,12 @@ fn fault_text(
     format!(heap, "fault {number} {layer} {part} {place}")
 }
 
-fn push_fault(heap: Global, out: &mut Vec<u8>, report: Report, part: &str) -> Result<(), AllocError>
-    ensures { λ r. ⌜ made r (λ _. vec-items (now (out .exit)) ≡ vec-items (now (out .entry)) ++ reported-words report (now (part .entry))) ⌝ }
+fn push_fault(heap: Global, out: &mut Vec<u8>, report: Report) -> Result<(), AllocError>
+    ensures { λ r. ⌜ made r (λ _. vec-items (now (out .exit)) ≡ vec-items (now (out .entry)) ++ reported-words report) ⌝ }
 {
-    let text = fault_text(
-        heap,
-        report.number,
-        layer_name(report.layer),
-        part,
-        report.place,
-    )?;
+    let layer = layer_name(report.layer);
+    let part = part_name(report.part);
+    let text = fault_text(heap, report.number, layer, part, report.place)?;
     out.extend_from_slice(text.as_bytes())?;
     Ok(())
 }
@@ -126,9 +139,9 @@ fn push_tray(out: &mut Vec<u8>, tray: &[u8]) -> Result<(), AllocError>
 }
 
 fn push_refused(heap: Global, out: &mut Vec<u8>, fault: OpenFault) -> Result<(), AllocError>
-    ensures { λ r. ⌜ made r (λ _. vec-items (now (out .exit)) ≡ vec-items (now (out .entry)) ++ (reported-words (open-report fault) (codes "book") ++ codes "\n")) ⌝ }
+    ensures { λ r. ⌜ made r (λ _. vec-items (now (out .exit)) ≡ vec-items (now (out .entry)) ++ (reported-words (open-report fault) ++ codes "\n")) ⌝ }
 {
-    push_fault(heap, out, fault.report(), "book")?;
+    push_fault(heap, out, fault.report())?;
     out.extend_from_slice(b"\n")?;
     Ok(())
 }
@@ -184,12 +197,7 @@ fn push_said(
             Ok(())
         }
         Err(short) => {
-            let report = Report {
-                number: 6,
-                layer: Layer::Router,
-                place: short.needed,
-            };
-            push_fault(heap, out, report, "tray")?;
+            push_fault(heap, out, short.report())?;
             Ok(())
         }
     }

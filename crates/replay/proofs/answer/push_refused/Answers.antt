@@ -9,6 +9,6 @@ use Rattle.replay.proofs.answer.push_refused.Needs as need
 
 pub returns : need.returns
 returns c =
-    pushed-two _ _ _ (reported-words (open-report (c .args .fault)) (codes "book")) (codes "\n")
-    (c .in-Continue-push-fault .ensures tt ∙ ap (λ r. vec-items (c .args .out .now) ++ reported-words r (codes "book")) (c .report .ensures))
+    pushed-two _ _ _ (reported-words (open-report (c .args .fault))) (codes "\n")
+    (c .in-Continue-push-fault .ensures tt ∙ ap (λ r. vec-items (c .args .out .now) ++ reported-words r) (c .report .ensures))
     (c .in-Continue-extend-from-slice .ensures tt .items)
