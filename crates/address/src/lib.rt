@@ -1,4 +1,5 @@
 //! Mail addresses as bytes: texts, quoted parts, the address inside a text, its bare and its domain.
+#![tactic(auto)]
 
 mod laws;
 mod mailbox;

@@ -1,4 +1,5 @@
 //! Who is mailed a review, and what holds of every answer.
+#![tactic(auto)]
 
 mod promises;
 

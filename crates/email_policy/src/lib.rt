@@ -1,4 +1,5 @@
 //! What list owners say: policies as packed records, keys of lists, and what answers for them.
+#![tactic(auto)]
 
 mod fault;
 mod fields;

@@ -1,4 +1,5 @@
 //! Who is mailed a review: the two resolve calls, over every policy source.
+#![tactic(auto)]
 
 mod action;
 mod calls;

@@ -1,4 +1,5 @@
 //! What the policies say of a mail: whether its author is shut out, which lists it names, and what they grant.
+#![tactic(auto)]
 
 mod copies;
 mod grant;

@@ -1,4 +1,6 @@
 //! Keeps the first of each class of like places, with the first preferred one of the class in its place.
+#![tactic(auto)]
+
 ghost use Rattle.std.specs.Prelude.{◌≡◌, ◌&&◌, length};
 ghost use Rattle.keep_first.specs.Model.{has_earlier, is_first, kept, stand_in_from, standing_at, kept_count, kept_slots};
 
@@ -12,14 +14,14 @@ pub use roll::Roll;
 
 // Whether place j takes part and is the same as i.
 fn is_match<C, S, R: Roll<C, S>>(roll: &R, texts: &C, source: &S, i: usize, j: usize) -> bool
-    ensures { result ≡ ((classes roll.now texts.now source.now).takes j && (classes roll.now texts.now source.now).same j i) }
+    ensures { result ≡ ((R.classes roll.now texts.now source.now).takes j && (R.classes roll.now texts.now source.now).same j i) }
 {
     roll.takes_part(texts, source, j) && roll.is_same(texts, source, j, i)
 }
 
 // Whether a place before i that takes part is the same.
 fn has_earlier<C, S, R: Roll<C, S>>(roll: &R, texts: &C, source: &S, i: usize) -> bool
-    ensures { result ≡ has_earlier (classes roll.now texts.now source.now) i }
+    ensures { result ≡ has_earlier (R.classes roll.now texts.now source.now) i }
 {
     for j in 0..i {
         if is_match(roll, texts, source, i, j) {
@@ -31,14 +33,14 @@ fn has_earlier<C, S, R: Roll<C, S>>(roll: &R, texts: &C, source: &S, i: usize) -
 
 // Whether place i takes part and is the first of its class.
 fn is_first<C, S, R: Roll<C, S>>(roll: &R, texts: &C, source: &S, i: usize) -> bool
-    ensures { result ≡ is_first (classes roll.now texts.now source.now) i }
+    ensures { result ≡ is_first (R.classes roll.now texts.now source.now) i }
 {
     roll.takes_part(texts, source, i) && !has_earlier(roll, texts, source, i)
 }
 
 /// How many places are kept, found without a slot. The preference does not matter for the number.
 pub fn count<C, S, R: Roll<C, S>>(roll: &R, texts: &C, source: &S) -> usize
-    ensures { result ≡ length (kept (classes roll.now texts.now source.now) (preferred roll.now texts.now source.now)) }
+    ensures { result ≡ length (kept (R.classes roll.now texts.now source.now) (R.preferred roll.now texts.now source.now)) }
 {
     let mut firsts = 0;
     for i in 0..roll.len(texts, source) {
@@ -51,7 +53,7 @@ pub fn count<C, S, R: Roll<C, S>>(roll: &R, texts: &C, source: &S) -> usize
 
 // Whether place j takes part, is the same as i and is preferred.
 fn may_stand<C, S, R: Roll<C, S>>(roll: &R, texts: &C, source: &S, i: usize, j: usize) -> bool
-    ensures { result ≡ ((classes roll.now texts.now source.now).takes j && ((classes roll.now texts.now source.now).same i j && preferred roll.now texts.now source.now j)) }
+    ensures { result ≡ ((R.classes roll.now texts.now source.now).takes j && ((R.classes roll.now texts.now source.now).same i j && R.preferred roll.now texts.now source.now j)) }
 {
     roll.takes_part(texts, source, j)
         && roll.is_same(texts, source, i, j)
@@ -60,7 +62,7 @@ fn may_stand<C, S, R: Roll<C, S>>(roll: &R, texts: &C, source: &S, i: usize, j: 
 
 // The first place from i on that may stand at i, or else i. None before a first place is the same, so none is asked.
 fn stand_in<C, S, R: Roll<C, S>>(roll: &R, texts: &C, source: &S, i: usize) -> usize
-    ensures { result ≡ stand_in_from (classes roll.now texts.now source.now) (preferred roll.now texts.now source.now) i }
+    ensures { result ≡ stand_in_from (R.classes roll.now texts.now source.now) (R.preferred roll.now texts.now source.now) i }
 {
     for j in i..roll.len(texts, source) {
         if may_stand(roll, texts, source, i, j) {
@@ -73,7 +75,7 @@ fn stand_in<C, S, R: Roll<C, S>>(roll: &R, texts: &C, source: &S, i: usize) -> u
 /// The place of what is kept at place `i`: nothing where `i` takes no part or is not the first of its class.
 /// A place past the last is answered as the roll answers for it; `keep_first` asks of none.
 pub fn standing<C, S, R: Roll<C, S>>(roll: &R, texts: &C, source: &S, i: usize) -> Option<usize>
-    ensures { result ≡ standing_at (classes roll.now texts.now source.now) (preferred roll.now texts.now source.now) i }
+    ensures { result ≡ standing_at (R.classes roll.now texts.now source.now) (R.preferred roll.now texts.now source.now) i }
 {
     if !roll.takes_part(texts, source, i) {
         return None;
@@ -92,8 +94,8 @@ pub fn keep_first<C, S, R: Roll<C, S>>(
     source: &S,
     slots: &mut [u16],
 ) -> Option<usize>
-    ensures answer { result ≡ kept_count (classes roll.now texts.now source.now) (preferred roll.now texts.now source.now) slots.old }
-    ensures state { slots.new ≡ kept_slots (classes roll.now texts.now source.now) (preferred roll.now texts.now source.now) slots.old }
+    ensures answer { result ≡ kept_count (R.classes roll.now texts.now source.now) (R.preferred roll.now texts.now source.now) slots.old }
+    ensures state { slots.new ≡ kept_slots (R.classes roll.now texts.now source.now) (R.preferred roll.now texts.now source.now) slots.old }
 {
     let count = roll.len(texts, source);
     if count > slots.len() {

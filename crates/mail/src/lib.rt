@@ -1,4 +1,5 @@
 //! A mail as mailboxes, each with its address found once, and its candidates as a roll.
+#![tactic(auto)]
 
 mod candidates;
 mod letter;

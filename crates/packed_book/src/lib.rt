@@ -1,4 +1,5 @@
 //! Packed books: opening, reading and writing them.
+#![tactic(auto)]
 
 mod book;
 mod check;

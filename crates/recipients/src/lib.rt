@@ -1,4 +1,5 @@
 //! Which candidates take part: whose addresses are lists', whether individuals are few, and who is mailed in To and in Cc.
+#![tactic(auto)]
 
 mod candidate;
 mod choice;

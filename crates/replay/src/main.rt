@@ -1,4 +1,5 @@
 //! Replays turns from standard input, one to a line, and prints what each gave.
+#![tactic(auto)]
 
 ghost use Rattle.std.specs.Prelude.{◌≡◌};
 ghost use Rattle.replay.specs.Lines.{unended};

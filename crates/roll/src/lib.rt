@@ -1,4 +1,5 @@
 //! Rolls: packed lists of texts. A roll is a two-byte count and then, for each text, a two-byte length and its bytes.
+#![tactic(auto)]
 
 mod ends;
 mod fault;

@@ -4,7 +4,7 @@ use Rattle.keep_first.proofs.KeptPlaces.{kept_below, kept_below_none, kept_below
 use Rattle.keep_first.proofs.Filled.{filled_none, filled-some, filled_skip, filled-length, filled_all}
 use Rattle.keep_first.proofs.Slots.{fits_from, count_kept, slots_kept}
 use Rattle.keep_first.proofs.keep_first.Goals as goal
-use Rattle.keep_first.proofs.keep_first.Goals.{in-Some, in-default}
+use Rattle.keep_first.proofs.keep_first.Goals.{in-Some, in_default}
 
 pub loop-i-init : goal.loop-i-init
 loop-i-init g c =
@@ -12,8 +12,8 @@ loop-i-init g c =
     let preferred : ℕ → Bool = g.R.Roll.preferred c.args.roll.now c.args.texts.now c.args.source.now in
     filled_none (kept_below m preferred) c.args.slots.now (kept_below_none m preferred)
 
-pub overflow-cast-slots : goal.overflow-cast-slots
-overflow-cast-slots g c =
+pub overflow_cast-slots : goal.overflow_cast-slots
+overflow_cast-slots g c =
     let m : Classes = g.R.Roll.classes c.args.roll.now c.args.texts.now c.args.source.now in
     let preferred : ℕ → Bool = g.R.Roll.preferred c.args.roll.now c.args.texts.now c.args.source.now in
     let below : c.in-Some.place < m.count = standing_within m preferred c.loop-i.i c.in-Some.place (omega arith) c.in-Some.ensures in
@@ -26,7 +26,7 @@ loop-i-preserved g c =
     let more = kept_below_more m preferred in
     elim c.match-standing.branch [
       | in-Some w ↦ rw (w.slots-is, w.filled-is) (filled-some (kept_below m preferred) c.loop-i.invariant (standing_at m preferred) more w.in-Some.place (omega arith) w.in-Some.ensures)
-      | in-default w ↦ rw (w.slots-is, w.filled-is) (filled_skip (kept_below m preferred) c.loop-i.invariant (standing_at m preferred) more w.in-default.ensures)
+      | in_default w ↦ rw (w.slots-is, w.filled-is) (filled_skip (kept_below m preferred) c.loop-i.invariant (standing_at m preferred) more w.in_default.ensures)
     ]
 
 pub returns : goal.returns

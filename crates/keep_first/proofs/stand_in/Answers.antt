@@ -3,8 +3,8 @@ use Rattle.keep_first.specs.Model.{Classes, stand_in_from}
 use Rattle.keep_first.proofs.KeptPlaces.{first_goes_on, first_hit, first_ends}
 use Rattle.keep_first.proofs.stand_in.Goals as goal
 
-pub returns-then-may-stand : goal.returns-then-may-stand
-returns-then-may-stand g c =
+pub returns-then-may_stand : goal.returns-then-may_stand
+returns-then-may_stand g c =
     let m : Classes = g.R.Roll.classes c.args.roll.now c.args.texts.now c.args.source.now in
     let preferred : ℕ → Bool = g.R.Roll.preferred c.args.roll.now c.args.texts.now c.args.source.now in
     first_hit m.takes (λ j. m.same c.args.i j && preferred j) c.args.i (stand_in_from m preferred c.args.i) c.loop-j.j m.count

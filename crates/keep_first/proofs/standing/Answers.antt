@@ -3,11 +3,11 @@ use Rattle.keep_first.specs.Model.{Classes}
 use Rattle.keep_first.proofs.KeptPlaces.{standing_out, standing_later, standing_first}
 use Rattle.keep_first.proofs.standing.Goals as goal
 
-pub returns-then-not-takes-part : goal.returns-then-not-takes-part
-returns-then-not-takes-part g c = search (rules, standing_out)
+pub returns-then-not-takes_part : goal.returns-then-not-takes_part
+returns-then-not-takes_part g c = search (rules, standing_out)
 
-pub returns-then-has-earlier : goal.returns-then-has-earlier
-returns-then-has-earlier g c = search (rules, standing_later)
+pub returns-then-has_earlier : goal.returns-then-has_earlier
+returns-then-has_earlier g c = search (rules, standing_later)
 
 pub returns : goal.returns
 returns g c =

@@ -4,16 +4,16 @@ use Rattle.address.specs.Text.{trimmed}
 use Rattle.address.proofs.Angles.{part_of, part_open, part_angled}
 use Rattle.address.proofs.mailbox.address_part.Goals as goal
 
-pub returns-in-default-find-outside : goal.returns-in-default-find-outside
-returns-in-default-find-outside c =
+pub returns-in_default-find_outside : goal.returns-in_default-find_outside
+returns-in_default-find_outside c =
     let same = take_rest c.trim-whole.result.now (c.in-Some.i + 1) in
-    part_open c.trim-whole.result.now _ c.in-Some.i c.in-Some.ensures.value same c.in-default-find-outside.ensures.value ∙ ap part_of c.trim-whole.ensures
+    part_open c.trim-whole.result.now _ c.in-Some.i c.in-Some.ensures.value same c.in_default-find_outside.ensures.value ∙ ap part_of c.trim-whole.ensures
 
 pub returns : goal.returns
 returns c =
     let same = take_rest c.trim-whole.result.now (c.in-Some.i + 1) in
-    let upto : c.in-Some-find-outside.n - 0 ≡ c.in-Some-find-outside.n = omega arith in
+    let upto : c.in-Some-find_outside.n - 0 ≡ c.in-Some-find_outside.n = omega arith in
     c.trim.ensures
     ∙ ap (λ n. trimmed (take n (take (length c.trim-whole.result.now - (c.in-Some.i + 1)) (drop (c.in-Some.i + 1) c.trim-whole.result.now)))) upto
-    ∙ part_angled c.trim-whole.result.now _ c.in-Some.i c.in-Some.ensures.value same c.in-Some-find-outside.n c.in-Some-find-outside.ensures.value
+    ∙ part_angled c.trim-whole.result.now _ c.in-Some.i c.in-Some.ensures.value same c.in-Some-find_outside.n c.in-Some-find_outside.ensures.value
     ∙ ap part_of c.trim-whole.ensures

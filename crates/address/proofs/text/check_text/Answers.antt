@@ -4,4 +4,4 @@ use Rattle.address.specs.Text.{text_fault}
 use Rattle.address.proofs.text.check_text.Goals as goal
 
 pub returns : goal.returns
-returns c = c.check-text-within.ensures ∙ ap (text_fault 0) (take_rest c.args.text.now 0)
+returns c = c.check_text_within.ensures ∙ ap (text_fault 0) (take_rest c.args.text.now 0)

@@ -4,10 +4,10 @@ use Rattle.address.proofs.Faults.{fault_passed, fault_here, fault_none}
 use Rattle.address.proofs.text.check_text_within.Goals as goal
 
 pub loop-i-preserved : goal.loop-i-preserved
-loop-i-preserved c = c.loop-i.invariant ∙ fault_passed c.args.bytes.now c.args.to c.loop-i.i (omega arith) (omega arith) (sym c.is-text-byte.ensures ∙ c.if-not-is-text-byte.false)
+loop-i-preserved c = c.loop-i.invariant ∙ fault_passed c.args.bytes.now c.args.to c.loop-i.i (omega arith) (omega arith) (sym c.is_text_byte.ensures ∙ c.if-not-is_text_byte.false)
 
-pub returns-then-not-is-text-byte : goal.returns-then-not-is-text-byte
-returns-then-not-is-text-byte c = sym (c.loop-i.invariant ∙ fault_here c.args.bytes.now c.args.to c.loop-i.i (omega arith) (omega arith) (sym c.is-text-byte.ensures ∙ c.if-not-is-text-byte.true))
+pub returns-then-not-is_text_byte : goal.returns-then-not-is_text_byte
+returns-then-not-is_text_byte c = sym (c.loop-i.invariant ∙ fault_here c.args.bytes.now c.args.to c.loop-i.i (omega arith) (omega arith) (sym c.is_text_byte.ensures ∙ c.if-not-is_text_byte.true))
 
 pub returns : goal.returns
 returns c =

@@ -6,11 +6,11 @@ use Rattle.address.proofs.text.contains_small.Goals as goal
 
 pub loop-i-preserved : goal.loop-i-preserved
 loop-i-preserved c =
-    below_more _ _ c.loop-i.invariant (small_part_differs c.args.text.now c.args.part.now c.loop-i.i (cases_from_iff c.if-eq-ignore-ascii-case.ensures.test))
+    below_more _ _ c.loop-i.invariant (small_part_differs c.args.text.now c.args.part.now c.loop-i.i (cases_from_iff c.if-eq_ignore_ascii_case.ensures.test))
 
-pub returns-then-eq-ignore-ascii-case : goal.returns-then-eq-ignore-ascii-case
-returns-then-eq-ignore-ascii-case c =
-    sym (holds_at (small c.args.text.now) (small c.args.part.now) c.loop-i.i (small_part_same c.args.text.now c.args.part.now c.loop-i.i (cases_from_iff c.if-eq-ignore-ascii-case.ensures.test)))
+pub returns-then-eq_ignore_ascii_case : goal.returns-then-eq_ignore_ascii_case
+returns-then-eq_ignore_ascii_case c =
+    sym (holds_at (small c.args.text.now) (small c.args.part.now) c.loop-i.i (small_part_same c.args.text.now c.args.part.now c.loop-i.i (cases_from_iff c.if-eq_ignore_ascii_case.ensures.test)))
 
 pub returns-then-text-n : goal.returns-then-text-n
 returns-then-text-n c = sym (small_nowhere c.args.text.now c.args.part.now (λ k l. absurd (omega arith)))

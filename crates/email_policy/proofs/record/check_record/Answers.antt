@@ -6,5 +6,5 @@ pub returns : goal.returns
 returns c =
     record {
       value = c.check-whole.ensures;
-      law = either_way c.args.full c.args.bytes.now c.check-whole.result (λ i. omega (arith, c.type-inv.bytes i)) c.check-whole.ensures;
+      law = either_way c.args.full c.args.bytes.now c.check-whole.result (λ i. omega (arith, c.type_inv.bytes i)) c.check-whole.ensures;
     }

@@ -6,5 +6,5 @@ pub returns : goal.returns
 returns c =
     record {
       value = c.whole_book.ensures;
-      law = either_way c.args.bytes.now c.whole_book.result (λ i. omega (arith, c.type-inv.bytes i)) c.whole_book.ensures;
+      law = either_way c.args.bytes.now c.whole_book.result (λ i. omega (arith, c.type_inv.bytes i)) c.whole_book.ensures;
     }

@@ -6,6 +6,6 @@ use Rattle.roll.proofs.ends.check_roll.Goals as goal
 pub returns : goal.returns
 returns c =
     record {
-      value = c.check-within.ensures;
-      law = either_way incoming c.args.bytes.now c.check-within.result (λ i. omega (arith, c.type-inv.bytes i)) c.check-within.ensures;
+      value = c.check_within.ensures;
+      law = either_way incoming c.args.bytes.now c.check_within.result (λ i. omega (arith, c.type_inv.bytes i)) c.check_within.ensures;
     }

@@ -9,18 +9,18 @@ loop-i-init c = (omega arith, grind (arith, nat_tests), grind (arith, nat_tests)
 
 pub loop-i-preserved : goal.loop-i-preserved
 loop-i-preserved c =
-    let b = c.in-ok-end.ensures.bound in (
+    let b = c.in_ok-end.ensures.bound in (
       omega arith,
       omega arith,
-      texts_go c.args.limits c.in-Some.count c.loop-i.i c.args.bytes.now c.loop-i.end c.in-ok-end.end (omega arith) c.loop-i.invariant.2 c.in-ok-end.ensures.value,
+      texts_go c.args.limits c.in-Some.count c.loop-i.i c.args.bytes.now c.loop-i.end c.in_ok-end.end (omega arith) c.loop-i.invariant.2 c.in_ok-end.ensures.value,
     )
 
-pub returns-in-err-end : goal.returns-in-err-end
-returns-in-err-end c =
-    let p = err_from_is_err_and c.from-residual.result c.from-residual.ensures.1 in
+pub returns-in_err-end : goal.returns-in_err-end
+returns-in_err-end c =
+    let p = err_from_is_err_and c.from_residual.result c.from_residual.ensures.1 in
     rw (p.1, p.2)
     record {
-      value = texts_stop c.args.limits c.in-Some.count c.loop-i.i c.args.bytes.now c.loop-i.end c.in-err-end.field-0.0 (omega arith) c.loop-i.invariant.2 c.in-err-end.ensures.value;
+      value = texts_stop c.args.limits c.in-Some.count c.loop-i.i c.args.bytes.now c.loop-i.end c.in_err-end.field-0.0 (omega arith) c.loop-i.invariant.2 c.in_err-end.ensures.value;
       bound = tt;
     }
 

@@ -7,5 +7,5 @@ pub returns : goal.returns
 returns c =
     record {
       end = omega arith;
-      tray = copied _ (word _) _ _ _ _ _ _ c.put-word.ensures c.copy-from-slice.ensures.after refl (omega arith) (omega arith);
+      tray = copied _ (word _) _ _ _ _ _ _ c.put_word.ensures c.copy_from_slice.ensures.after refl (omega arith) (omega arith);
     }

@@ -1,4 +1,4 @@
-use Rattle.std.proofs.Common.{ℕ, map, Err, Result, sym, ap, ◌∙◌, arith}
+use Rattle.std.proofs.Common.{ℕ, map, Err, Result, sym, ap, ◌∙◌, arith, Bor}
 use Rattle.std.proofs.lemmas.List.{length-map}
 use Rattle.address.specs.Text.{Text}
 use Rattle.roll.specs.declared.write.WriteFault.{WriteFault}
@@ -8,7 +8,7 @@ use Rattle.roll.proofs.write.roll_len.Goals as goal
 
 pub returns-then-texts-ge-WORDS : goal.returns-then-texts-ge-WORDS
 returns-then-texts-ge-WORDS c =
-    let l = length-map c.args.texts.now ((λ x. x.now) {X = Text}) in
+    let l = length-map c.args.texts.now (λ (x : Bor Text). x.now) in
     let E : ℕ → Result ℕ WriteFault = λ (n : ℕ). Err (Count n) in
     ap E (sym l) ∙ size_many (map (λ x. x.now) c.args.texts.now) (omega arith)
 
@@ -17,17 +17,17 @@ loop-i-init c = sized_none _
 
 pub loop-i-preserved : goal.loop-i-preserved
 loop-i-preserved c =
-    let l = length-map c.args.texts.now ((λ x. x.now) {X = Text}) in
+    let l = length-map c.args.texts.now (λ (x : Bor Text). x.now) in
     sized_more c.loop-i.invariant _ (omega arith) (get_d_map (λ x. x.now) c.args.texts.now c.loop-i.i _) c.if-text-ge-WORDS.false
 
 pub returns-then-text-ge-WORDS : goal.returns-then-text-ge-WORDS
 returns-then-text-ge-WORDS c =
-    let l = length-map c.args.texts.now ((λ x. x.now) {X = Text}) in
+    let l = length-map c.args.texts.now (λ (x : Bor Text). x.now) in
     size_long (map (λ x. x.now) c.args.texts.now) c.loop-i.i (omega arith)
     (sized_stop c.loop-i.invariant _ (omega arith) (get_d_map (λ x. x.now) c.args.texts.now c.loop-i.i _) c.if-text-ge-WORDS.true)
 
 pub returns : goal.returns
 returns c =
-    let l = length-map c.args.texts.now ((λ x. x.now) {X = Text}) in
+    let l = length-map c.args.texts.now (λ (x : Bor Text). x.now) in
     let a = sized_all c.loop-i.invariant (omega arith) in
     size_ok (map (λ x. x.now) c.args.texts.now) c.loop-i.len (omega arith) a.0 a.1
