@@ -1,10 +1,11 @@
 -- The order of keys in small letters, told from some place on.
-use Rattle.std.proofs.Common.{◌≡◌, ℕ, zero, suc, ◌+◌, ◌<◌, ◌≤◌, Bool, true, false, ◌&&◌, ◌||◌, eqb, ltb, List, [], ◌∷◌, length, get_or, drop, IsSomeAnd, sym, refl, ap, ◌∙◌, arith}
-use Rattle.std.specs.Cmp.Lexicographic.{LexSome}
-use Rattle.std.specs.Ordering.{is_lt, MatchOrdering, Tested, nat_cmp}
+use Rattle.std.proofs.Common.{◌≡◌, Some, ℕ, zero, suc, ◌+◌, ◌<◌, ◌≤◌, Bool, true, false, ◌&&◌, ◌||◌, eqb, ltb, List, [], ◌∷◌, length, get_or, drop, cond, ◌==◌, nat_lt, sym, refl, ap, ◌∙◌, arith}
+use Rattle.std.specs.Cmp.Lexicographic.{slice_cmp, slice_partial_cmp, lists_agrees}
+use Rattle.std.specs.declared.cmp.Ordering.{Ordering}
+use Rattle.std.specs.declared.cmp.Ordering.TheVariants.{Less, Equal, Greater}
+use Rattle.std.specs.Ordering.{ordering_then, is_lt, is_some_and, nat_cmp}
 use Rattle.std.specs.Char.{to_ascii_lowercase}
 use Rattle.std.proofs.lemmas.List.{drop_more, drop_all}
-use Rattle.std.proofs.lemmas.Cmp.{same_from_slice_cmp_tested}
 use Rattle.std.proofs.lemmas.Bool.{lt-ltb, le-ltb, eq-eqb, ne_eqb}
 use Rattle.std.proofs.lemmas.Bool.Decides.{nat_tests}
 use Rattle.address.specs.Text.{Text, small}
@@ -12,9 +13,20 @@ use Rattle.address.specs.Address.{address_part, same_bare}
 use Rattle.email_policy.specs.Keys.{before, rises}
 
 -- the order of slices
-pub before_tested : (a b : Text) (r : Bool) → Tested (LexSome (λ x y o. IsSomeAnd o (λ k. MatchOrdering k (x < y) (x ≡ y) (y < x))) a b) is_lt r → r ≡ before a b
+pub before_compared : (a b : Text) → is_lt (slice_cmp nat_cmp a b) ≡ before a b
 unfolding before
-before_tested = same_from_slice_cmp_tested nat_cmp is_lt before refl (λ _ _. refl) (λ _ _. refl) (λ x y xs ys o h. grind (arith, nat_tests))
+before_compared [] [] = refl
+before_compared [] (c ∷ b) = refl
+before_compared (x ∷ a) [] = refl
+before_compared (x ∷ a) (y ∷ b) = step (nat_lt x y) (x == y) (slice_cmp nat_cmp a b) (before a b) (before_compared a b)
+  where
+    step : (less same : Bool) (rest : Ordering) (r : Bool) → is_lt rest ≡ r → is_lt (ordering_then (cond less Less (cond same Equal Greater)) rest) ≡ (less || (same && r))
+    step true same rest r e = refl
+    step false true rest r e = e
+    step false false rest r e = refl
+
+pub before_partly : (a b : Text) → is_some_and is_lt (slice_partial_cmp (λ x y. Some (nat_cmp x y)) a b) ≡ before a b
+before_partly a b = ap (is_some_and is_lt) (lists_agrees (λ x y. refl) a b) ∙ before_compared a b
 
 -- what is left of both
 abbrev pub small_from : ℕ → Text → Text → Bool

@@ -4,4 +4,4 @@ use Rattle.email_policy.proofs.keys.form_fault.Goals as goal
 pub returns : goal.returns
 returns c =
     form_fine c.args.at c.args.key.now c.trim-text.result.now c.address_part.result.now _
-    c.trim-text.ensures c.address_part.ensures c.in-Some.ensures c.if-not-good-sides.ensures c.if-has-blank.ensures c.if-is-empty.ensures
+    c.trim-text.ensures c.address_part.ensures c.in-Some.ensures c.if-not-good_sides.ensures c.if-has_blank.ensures c.if-is_empty.ensures

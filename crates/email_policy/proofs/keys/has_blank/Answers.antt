@@ -3,8 +3,8 @@ use Rattle.address.specs.Text.{blank}
 use Rattle.email_policy.proofs.KeyBytes.{some_goes, some_hits, some_ends}
 use Rattle.email_policy.proofs.keys.has_blank.Goals as goal
 
-pub returns-then-is-blank : goal.returns-then-is-blank
-returns-then-is-blank c = some_hits blank c.args.text.now c.loop-b.b-index c.loop-b.invariant (omega arith) (cc)
+pub returns-then-is_blank : goal.returns-then-is_blank
+returns-then-is_blank c = some_hits blank c.args.text.now c.loop-b.b-index c.loop-b.invariant (omega arith) (cc)
 
 pub loop-b-preserved : goal.loop-b-preserved
 loop-b-preserved c = some_goes blank c.args.text.now c.loop-b.b-index c.loop-b.invariant (omega arith) (cc)

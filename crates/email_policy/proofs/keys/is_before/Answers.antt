@@ -1,6 +1,6 @@
-use Rattle.std.proofs.Common.{rules}
-use Rattle.email_policy.proofs.KeyOrder.{before_tested}
+use Rattle.std.proofs.Common.{◌∙◌}
+use Rattle.email_policy.proofs.KeyOrder.{before_partly}
 use Rattle.email_policy.proofs.keys.is_before.Goals as goal
 
 pub returns : goal.returns
-returns c = search (rules, before_tested)
+returns c = c.lt.ensures ∙ before_partly c.args.a.now c.args.b.now
