@@ -27,7 +27,7 @@ fn resolve_for<'m, S: PolicySource>(
     scratch: &mut [u16],
     tray: &mut [u8],
 ) -> Result<usize, RouterFault>
-    ensures { given result scratch.new tray.new ≡ given_by to.now cc.now author.now bot.now (meaning source.now) scratch.old tray.old pass }
+    ensures { given result scratch.new tray.new ≡ given_by to.now cc.now author.now bot.now (S.meaning source.now) scratch.old tray.old pass }
 {
     check(to, cc, author, bot, scratch)?;
     let to = Roll::new(to);
@@ -54,9 +54,9 @@ pub fn resolve_recipients<S: PolicySource>(
     scratch: &mut [u16],
     tray: &mut [u8],
 ) -> Result<usize, RouterFault>
-    ensures given { given result scratch.new tray.new ≡ first_given to.now cc.now author.now bot.now (meaning source.now) scratch.old tray.old }
-    ensures due { ReachesTheDue known_domain (meaning source.now) (mail_of to.now cc.now author.now bot.now) }
-    ensures unheard { (q : Policy) → Alike (mail_of to.now cc.now author.now bot.now) (meaning source.now) q → first_given to.now cc.now author.now bot.now (meaning source.now) scratch.old tray.old ≡ first_given to.now cc.now author.now bot.now q scratch.old tray.old }
+    ensures given { given result scratch.new tray.new ≡ first_given to.now cc.now author.now bot.now (S.meaning source.now) scratch.old tray.old }
+    ensures due { ReachesTheDue known_domain (S.meaning source.now) (mail_of to.now cc.now author.now bot.now) }
+    ensures unheard { (q : Policy) → Alike (mail_of to.now cc.now author.now bot.now) (S.meaning source.now) q → first_given to.now cc.now author.now bot.now (S.meaning source.now) scratch.old tray.old ≡ first_given to.now cc.now author.now bot.now q scratch.old tray.old }
 {
     resolve_for(source, to, cc, author, bot, Pass::First, scratch, tray)
 }
@@ -71,9 +71,9 @@ pub fn resolve_positive_recipients<S: PolicySource>(
     scratch: &mut [u16],
     tray: &mut [u8],
 ) -> Result<usize, RouterFault>
-    ensures given { given result scratch.new tray.new ≡ positive_given to.now cc.now author.now bot.now (meaning source.now) scratch.old tray.old }
-    ensures due { PositiveWithinDue known_domain (meaning source.now) (mail_of to.now cc.now author.now bot.now) }
-    ensures unheard { (q : Policy) → Alike (mail_of to.now cc.now author.now bot.now) (meaning source.now) q → positive_given to.now cc.now author.now bot.now (meaning source.now) scratch.old tray.old ≡ positive_given to.now cc.now author.now bot.now q scratch.old tray.old }
+    ensures given { given result scratch.new tray.new ≡ positive_given to.now cc.now author.now bot.now (S.meaning source.now) scratch.old tray.old }
+    ensures due { PositiveWithinDue known_domain (S.meaning source.now) (mail_of to.now cc.now author.now bot.now) }
+    ensures unheard { (q : Policy) → Alike (mail_of to.now cc.now author.now bot.now) (S.meaning source.now) q → positive_given to.now cc.now author.now bot.now (S.meaning source.now) scratch.old tray.old ≡ positive_given to.now cc.now author.now bot.now q scratch.old tray.old }
 {
     resolve_for(source, to, cc, author, bot, Pass::Positive, scratch, tray)
 }

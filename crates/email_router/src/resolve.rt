@@ -45,8 +45,8 @@ fn merged_rank<S: PolicySource>(
     mail: &Mail<'_, '_>,
     named: &[bool],
 ) -> Option<PositiveReviewPolicy>
-    requires { named.now ≡ map (names (letter mail.now)) (meaning source.now).lists }
-    ensures { result ≡ (if shut_out (meaning source.now) (letter mail.now) || muted (meaning source.now) (letter mail.now) then None else Some (merged_rank (meaning source.now) (letter mail.now))) }
+    requires { named.now ≡ map (names (letter mail.now)) (S.meaning source.now).lists }
+    ensures { result ≡ (if shut_out (S.meaning source.now) (letter mail.now) || muted (S.meaning source.now) (letter mail.now) then None else Some (merged_rank (S.meaning source.now) (letter mail.now))) }
 {
     if is_shut_out(source, mail) {
         return None;
@@ -90,10 +90,10 @@ fn choose<'a, S: PolicySource>(
     to: &mut [bool],
     cc: &mut [bool],
 ) -> usize
-    requires keys { texts keys.now ≡ keys_of (meaning source.now) }
-    requires named { length named.now ≡ length (meaning source.now).lists }
+    requires keys { texts keys.now ≡ keys_of (S.meaning source.now) }
+    requires named { length named.now ≡ length (S.meaning source.now).lists }
     requires room { (8224 ≤ length table.old) × ((513 ≤ length to.old) × (8736 ≤ length cc.old)) }
-    ensures { Chosen (letter mail.now) (keys_of (meaning source.now)) (grant_by pass named.now (meaning source.now)) table.new result to.new cc.new }
+    ensures { Chosen (letter mail.now) (keys_of (S.meaning source.now)) (grant_by pass named.now (S.meaning source.now)) table.new result to.new cc.new }
 {
     let count = gather_cc(source, named, pass, table);
     let terms = find_terms(source, named, pass);
@@ -155,10 +155,10 @@ fn send<S: PolicySource>(
     scratch: &mut [u16],
     tray: &mut [u8],
 ) -> Result<usize, RouterFault>
-    requires keys { texts keys.now ≡ keys_of (meaning source.now) }
-    requires named { length named.now ≡ length (meaning source.now).lists }
+    requires keys { texts keys.now ≡ keys_of (S.meaning source.now) }
+    requires named { length named.now ≡ length (S.meaning source.now).lists }
     requires slots { slots_needed ≤ length scratch.old }
-    ensures { given result scratch.new tray.new ≡ answered (pack_sent (sent (listed_by (keys_of (meaning source.now))) (letter mail.now) (grant_by pass named.now (meaning source.now))) rank) scratch.old tray.old }
+    ensures { given result scratch.new tray.new ≡ answered (pack_sent (sent (listed_by (keys_of (S.meaning source.now))) (letter mail.now) (grant_by pass named.now (S.meaning source.now))) rank) scratch.old tray.old }
 {
     let mut table = [Mailbox::new(&[]); MOST_ADDED];
     let mut to = [false; MOST_TO];
@@ -178,8 +178,8 @@ fn first_answer<S: PolicySource>(
     keys: &Mailboxes<'_, '_>,
     named: &[bool],
 ) -> Action
-    requires { Named (meaning source.now) (letter mail.now) (texts keys.now) named.now }
-    ensures { result ≡ answer_action (first_answer known_domain (meaning source.now) (letter mail.now)) }
+    requires { Named (S.meaning source.now) (letter mail.now) (texts keys.now) named.now }
+    ensures { result ≡ answer_action (first_answer known_domain (S.meaning source.now) (letter mail.now)) }
 {
     let Some(rank) = merged_rank(source, mail, named) else {
         return Action::Mute;
@@ -272,9 +272,9 @@ fn first<S: PolicySource>(
     scratch: &mut [u16],
     tray: &mut [u8],
 ) -> Result<usize, RouterFault>
-    requires named { Named (meaning source.now) (letter mail.now) (texts keys.now) named.now }
+    requires named { Named (S.meaning source.now) (letter mail.now) (texts keys.now) named.now }
     requires slots { slots_needed ≤ length scratch.old }
-    ensures { given result scratch.new tray.new ≡ answered (pack_answer (first_answer known_domain (meaning source.now) (letter mail.now))) scratch.old tray.old }
+    ensures { given result scratch.new tray.new ≡ answered (pack_answer (first_answer known_domain (S.meaning source.now) (letter mail.now))) scratch.old tray.old }
 {
     let Some(rank) = merged_rank(source, mail, named) else {
         return deliver_nothing(scratch, tray);
@@ -291,9 +291,9 @@ fn positive<S: PolicySource>(
     scratch: &mut [u16],
     tray: &mut [u8],
 ) -> Result<usize, RouterFault>
-    requires named { Named (meaning source.now) (letter mail.now) (texts keys.now) named.now }
+    requires named { Named (S.meaning source.now) (letter mail.now) (texts keys.now) named.now }
     requires slots { slots_needed ≤ length scratch.old }
-    ensures { given result scratch.new tray.new ≡ answered (pack_positive (positive_answer known_domain (meaning source.now) (letter mail.now))) scratch.old tray.old }
+    ensures { given result scratch.new tray.new ≡ answered (pack_positive (positive_answer known_domain (S.meaning source.now) (letter mail.now))) scratch.old tray.old }
 {
     let Action::Send {
         positive_review,
@@ -327,7 +327,7 @@ pub(crate) fn resolve<S: PolicySource>(
     tray: &mut [u8],
 ) -> Result<usize, RouterFault>
     requires { slots_needed ≤ length scratch.old }
-    ensures { given result scratch.new tray.new ≡ answered (packed pass (meaning source.now) (letter mail.now)) scratch.old tray.old }
+    ensures { given result scratch.new tray.new ≡ answered (packed pass (S.meaning source.now) (letter mail.now)) scratch.old tray.old }
 {
     let mut table = [Mailbox::new(&[]); MOST_LISTS];
     let count = read_keys(source, &mut table);

@@ -19,7 +19,7 @@ fn append_list<'a, S: PolicySource>(
     table: &mut [Mailbox<'a>],
     end: usize,
 ) -> usize
-    ensures { (ts : List Text) → Holds table.old end ts → Holds table.new result (fitting table.old (ts ++ (entry_at (meaning source.now) n).policy.cc)) }
+    ensures { (ts : List Text) → Holds table.old end ts → Holds table.new result (fitting table.old (ts ++ (entry_at (S.meaning source.now) n).policy.cc)) }
 {
     let mut end = end;
     for m in 0..MOST_TEXTS {
@@ -37,7 +37,7 @@ fn append_defaults<'a, S: PolicySource>(
     table: &mut [Mailbox<'a>],
     end: usize,
 ) -> usize
-    ensures { (ts : List Text) → Holds table.old end ts → Holds table.new result (fitting table.old (ts ++ (meaning source.now).defaults.cc)) }
+    ensures { (ts : List Text) → Holds table.old end ts → Holds table.new result (fitting table.old (ts ++ (S.meaning source.now).defaults.cc)) }
 {
     let mut end = end;
     for m in 0..MOST_TEXTS {
@@ -57,7 +57,7 @@ pub fn gather_cc<'a, S: PolicySource>(
     pass: Pass,
     table: &mut [Mailbox<'a>],
 ) -> usize
-    ensures { Holds table.new result (fitting table.old (grant_by pass named.now (meaning source.now)).cc) }
+    ensures { Holds table.new result (fitting table.old (grant_by pass named.now (S.meaning source.now)).cc) }
 {
     let mut end = 0;
     for n in 0..source.len() {

@@ -15,7 +15,7 @@ const MOST_TEXTS: usize = 32;
 
 /// Whether list `n` ignores the author.
 fn is_ignored_by<S: PolicySource>(source: &S, author: &[u8], n: usize) -> bool
-    ensures { result ≡ some (λ t. holds (small author.now) (small t)) (entry_at (meaning source.now) n).policy.ignored_emails }
+    ensures { result ≡ some (λ t. holds (small author.now) (small t)) (entry_at (S.meaning source.now) n).policy.ignored_emails }
 {
     for m in 0..MOST_TEXTS {
         let Some(text) = source.ignored_email(n, m) else {
@@ -30,7 +30,7 @@ fn is_ignored_by<S: PolicySource>(source: &S, author: &[u8], n: usize) -> bool
 
 /// Whether the defaults ignore the author.
 fn is_ignored_by_defaults<S: PolicySource>(source: &S, author: &[u8]) -> bool
-    ensures { result ≡ some (λ t. holds (small author.now) (small t)) (meaning source.now).defaults.ignored_emails }
+    ensures { result ≡ some (λ t. holds (small author.now) (small t)) (S.meaning source.now).defaults.ignored_emails }
 {
     for m in 0..MOST_TEXTS {
         let Some(text) = source.default_ignored_email(m) else {
@@ -45,7 +45,7 @@ fn is_ignored_by_defaults<S: PolicySource>(source: &S, author: &[u8]) -> bool
 
 /// Whether the defaults or any list, named or not, ignore the author.
 fn is_ignored_author<S: PolicySource>(source: &S, author: &[u8]) -> bool
-    ensures { result ≡ some (λ t. holds (small author.now) (small t)) (ignored_texts (meaning source.now)) }
+    ensures { result ≡ some (λ t. holds (small author.now) (small t)) (ignored_texts (S.meaning source.now)) }
 {
     if is_ignored_by_defaults(source, author) {
         return true;
@@ -60,7 +60,7 @@ fn is_ignored_author<S: PolicySource>(source: &S, author: &[u8]) -> bool
 
 /// Whether the author is shut out: by an ignored text, or because the author's text holds the bot's address.
 pub fn is_shut_out<S: PolicySource>(source: &S, mail: &Mail<'_, '_>) -> bool
-    ensures { result ≡ shut_out (meaning source.now) (letter mail.now) }
+    ensures { result ≡ shut_out (S.meaning source.now) (letter mail.now) }
 {
     let author = mail.people[0];
     if is_ignored_author(source, author.text()) {

@@ -16,7 +16,7 @@ use mail::{Mail, Mailbox, Mailboxes, append};
 
 /// Fills a table with the keys of the lists, as far as there is room, and gives how many there are.
 pub fn read_keys<'a, S: PolicySource>(source: &'a S, table: &mut [Mailbox<'a>]) -> usize
-    ensures { Holds table.new result (fitting table.old (keys_of (meaning source.now))) }
+    ensures { Holds table.new result (fitting table.old (keys_of (S.meaning source.now))) }
 {
     let mut end = 0;
     for n in 0..source.len() {
@@ -50,7 +50,7 @@ pub fn find_named(keys: &Mailboxes<'_, '_>, mail: &Mail<'_, '_>, marks: &mut [bo
 
 /// Marks those of the named lists whose addresses are replied to.
 pub fn find_replying<S: PolicySource>(source: &S, named: &[bool], pass: Pass, marks: &mut [bool])
-    ensures { marks.new ≡ over (replying pass (meaning source.now).defaults named.now (meaning source.now).lists) marks.old }
+    ensures { marks.new ≡ over (replying pass (S.meaning source.now).defaults named.now (S.meaning source.now).lists) marks.old }
 {
     for n in 0..marks.len().min(named.len()).min(source.len()) {
         marks[n] = replies_to_list(source, named, pass, n);
@@ -59,7 +59,7 @@ pub fn find_replying<S: PolicySource>(source: &S, named: &[bool], pass: Pass, ma
 
 /// Whether list `n` is named and its addresses are replied to.
 fn replies_to_list<S: PolicySource>(source: &S, named: &[bool], pass: Pass, n: usize) -> bool
-    ensures { result ≡ (slice_index_or named.now n false && (rule_in pass (meaning source.now).defaults (entry_at (meaning source.now) n).policy).reply_to.list) }
+    ensures { result ≡ (slice_index_or named.now n false && (rule_in pass (S.meaning source.now).defaults (entry_at (S.meaning source.now) n).policy).reply_to.list) }
 {
     is_marked(named, n) && rule_of(source, n, pass).reply_to.list
 }

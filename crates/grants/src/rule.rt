@@ -25,7 +25,7 @@ const NOBODY: ReplyTo = ReplyTo {
 
 /// The rule of list `n`.
 pub(crate) fn rule_of<S: PolicySource>(source: &S, n: usize, pass: Pass) -> Rule
-    ensures { result ≡ code_rule pass (meaning source.now).defaults (entry_at (meaning source.now) n).policy }
+    ensures { result ≡ code_rule pass (S.meaning source.now).defaults (entry_at (S.meaning source.now) n).policy }
 {
     let reply_to = source.reply_to(n).unwrap_or(source.default_reply_to());
     let positive_review = source

@@ -23,7 +23,7 @@ fn with_rule(terms: Terms, rule: Rule) -> Terms
 
 /// The terms of the named lists.
 fn sum_up<S: PolicySource>(source: &S, named: &[bool], pass: Pass) -> Terms
-    ensures { result ≡ sum_from pass (meaning source.now).defaults nothing_said named.now (meaning source.now).lists }
+    ensures { result ≡ sum_from pass (S.meaning source.now).defaults nothing_said named.now (S.meaning source.now).lists }
 {
     let mut terms = Terms {
         named: false,
@@ -43,7 +43,7 @@ fn sum_up<S: PolicySource>(source: &S, named: &[bool], pass: Pass) -> Terms
 
 /// The terms of the named lists, or of the defaults where none is named. The marks say which lists are named.
 pub fn find_terms<S: PolicySource>(source: &S, named: &[bool], pass: Pass) -> Terms
-    ensures { result ≡ terms_by pass named.now (meaning source.now) }
+    ensures { result ≡ terms_by pass named.now (S.meaning source.now) }
 {
     let terms = sum_up(source, named, pass);
     if terms.named {

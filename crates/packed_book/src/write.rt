@@ -59,7 +59,7 @@ fn put_text(tray: &mut [u8], at: usize, text: &[u8]) -> usize
 }
 
 fn reply_byte<S: PolicySource>(source: &S, whose: Whose) -> Option<u8>
-    ensures { result ≡ option_map reply_number (record_of (meaning source.now) whose).reply_to }
+    ensures { result ≡ option_map reply_number (record_of (S.meaning source.now) whose).reply_to }
 {
     match whose {
         Whose::Defaults => Some(source.default_reply_to().number()),
@@ -68,7 +68,7 @@ fn reply_byte<S: PolicySource>(source: &S, whose: Whose) -> Option<u8>
 }
 
 fn rank_byte<S: PolicySource>(source: &S, whose: Whose) -> Option<u8>
-    ensures { result ≡ option_map rank_number (record_of (meaning source.now) whose).positive_review }
+    ensures { result ≡ option_map rank_number (record_of (S.meaning source.now) whose).positive_review }
 {
     match whose {
         Whose::Defaults => Some(source.default_positive_review().number()),
@@ -83,7 +83,7 @@ fn mute_number(mute: bool) -> u8
 }
 
 fn mute_byte<S: PolicySource>(source: &S, whose: Whose) -> Option<u8>
-    ensures { result ≡ option_map mute_number (record_of (meaning source.now) whose).mute_all }
+    ensures { result ≡ option_map mute_number (record_of (S.meaning source.now) whose).mute_all }
 {
     match whose {
         Whose::Defaults => Some(mute_number(source.default_mute_all())),
@@ -93,7 +93,7 @@ fn mute_byte<S: PolicySource>(source: &S, whose: Whose) -> Option<u8>
 
 /// Text `m` of a roll.
 fn text<S: PolicySource>(source: &S, whose: Whose, part: Part, m: usize) -> Option<&[u8]>
-    ensures { option_map (λ x. x.now) result ≡ slice_get (texts_of part (record_of (meaning source.now) whose)) m }
+    ensures { option_map (λ x. x.now) result ≡ slice_get (texts_of part (record_of (S.meaning source.now) whose)) m }
 {
     match (whose, part) {
         (Whose::Defaults, Part::Cc) => source.default_cc(m),
@@ -105,7 +105,7 @@ fn text<S: PolicySource>(source: &S, whose: Whose, part: Part, m: usize) -> Opti
 
 /// How many texts a roll has.
 fn text_count<S: PolicySource>(source: &S, whose: Whose, part: Part) -> usize
-    ensures value { result ≡ length (texts_of part (record_of (meaning source.now) whose)) }
+    ensures value { result ≡ length (texts_of part (record_of (S.meaning source.now) whose)) }
     ensures few { result ≤ 32 }
 {
     for m in 0..MOST_TEXTS {
@@ -123,9 +123,9 @@ fn put_texts<S: PolicySource>(
     tray: &mut [u8],
     at: usize,
 ) -> usize
-    requires { at + length (pack_texts (texts_of part (record_of (meaning source.now) whose))) ≤ 65535 }
-    ensures end { result ≡ at + length (pack_texts (texts_of part (record_of (meaning source.now) whose))) }
-    ensures tray { Puts tray.old at (pack_texts (texts_of part (record_of (meaning source.now) whose))) tray.new }
+    requires { at + length (pack_texts (texts_of part (record_of (S.meaning source.now) whose))) ≤ 65535 }
+    ensures end { result ≡ at + length (pack_texts (texts_of part (record_of (S.meaning source.now) whose))) }
+    ensures tray { Puts tray.old at (pack_texts (texts_of part (record_of (S.meaning source.now) whose))) tray.new }
 {
     let mut end = at;
     for m in 0..MOST_TEXTS {
@@ -145,9 +145,9 @@ fn put_roll<S: PolicySource>(
     tray: &mut [u8],
     at: usize,
 ) -> usize
-    requires { at + length (pack_part (texts_of part (record_of (meaning source.now) whose))) ≤ 65535 }
-    ensures end { result ≡ at + length (pack_part (texts_of part (record_of (meaning source.now) whose))) }
-    ensures tray { Puts tray.old at (pack_part (texts_of part (record_of (meaning source.now) whose))) tray.new }
+    requires { at + length (pack_part (texts_of part (record_of (S.meaning source.now) whose))) ≤ 65535 }
+    ensures end { result ≡ at + length (pack_part (texts_of part (record_of (S.meaning source.now) whose))) }
+    ensures tray { Puts tray.old at (pack_part (texts_of part (record_of (S.meaning source.now) whose))) tray.new }
 {
     let count = text_count(source, whose, part);
     if count == 0 {
@@ -166,13 +166,13 @@ fn bit(is_there: bool, weight: u8) -> u8
 }
 
 fn has_text<S: PolicySource>(source: &S, whose: Whose, part: Part) -> bool
-    ensures { result ≡ some_text (texts_of part (record_of (meaning source.now) whose)) }
+    ensures { result ≡ some_text (texts_of part (record_of (S.meaning source.now) whose)) }
 {
     text(source, whose, part, 0).is_some()
 }
 
 fn bit_map<S: PolicySource>(source: &S, whose: Whose) -> u8
-    ensures { result ≡ bit_map (record_of (meaning source.now) whose) }
+    ensures { result ≡ bit_map (record_of (S.meaning source.now) whose) }
 {
     let reply = bit(reply_byte(source, whose).is_some(), 1);
     let rank = bit(rank_byte(source, whose).is_some(), 2);
@@ -183,9 +183,9 @@ fn bit_map<S: PolicySource>(source: &S, whose: Whose) -> u8
 }
 
 fn put_policy<S: PolicySource>(source: &S, whose: Whose, tray: &mut [u8], at: usize) -> usize
-    requires { at + length (pack_policy (record_of (meaning source.now) whose)) ≤ 65535 }
-    ensures end { result ≡ at + length (pack_policy (record_of (meaning source.now) whose)) }
-    ensures tray { Puts tray.old at (pack_policy (record_of (meaning source.now) whose)) tray.new }
+    requires { at + length (pack_policy (record_of (S.meaning source.now) whose)) ≤ 65535 }
+    ensures end { result ≡ at + length (pack_policy (record_of (S.meaning source.now) whose)) }
+    ensures tray { Puts tray.old at (pack_policy (record_of (S.meaning source.now) whose)) tray.new }
 {
     let reply = put_byte(tray, at, Some(bit_map(source, whose)));
     let rank = put_byte(tray, reply, reply_byte(source, whose));
@@ -197,9 +197,9 @@ fn put_policy<S: PolicySource>(source: &S, whose: Whose, tray: &mut [u8], at: us
 
 /// Writes the key and the record of list `n`.
 fn put_list<S: PolicySource>(source: &S, n: usize, tray: &mut [u8], at: usize) -> usize
-    requires { at + length (list_row (slice_get (meaning source.now).lists n)) ≤ 65535 }
-    ensures end { result ≡ at + length (list_row (slice_get (meaning source.now).lists n)) }
-    ensures tray { Puts tray.old at (list_row (slice_get (meaning source.now).lists n)) tray.new }
+    requires { at + length (list_row (slice_get (S.meaning source.now).lists n)) ≤ 65535 }
+    ensures end { result ≡ at + length (list_row (slice_get (S.meaning source.now).lists n)) }
+    ensures tray { Puts tray.old at (list_row (slice_get (S.meaning source.now).lists n)) tray.new }
 {
     let Some(key) = source.key(n) else {
         return at;
@@ -209,9 +209,9 @@ fn put_list<S: PolicySource>(source: &S, n: usize, tray: &mut [u8], at: usize) -
 }
 
 fn put_lists<S: PolicySource>(source: &S, tray: &mut [u8], at: usize) -> usize
-    requires { at + length (flat_map pack_entry (meaning source.now).lists) ≤ 65535 }
-    ensures end { result ≡ at + length (flat_map pack_entry (meaning source.now).lists) }
-    ensures tray { Puts tray.old at (flat_map pack_entry (meaning source.now).lists) tray.new }
+    requires { at + length (flat_map pack_entry (S.meaning source.now).lists) ≤ 65535 }
+    ensures end { result ≡ at + length (flat_map pack_entry (S.meaning source.now).lists) }
+    ensures tray { Puts tray.old at (flat_map pack_entry (S.meaning source.now).lists) tray.new }
 {
     let mut end = at;
     for n in 0..source.len() {
@@ -222,8 +222,8 @@ fn put_lists<S: PolicySource>(source: &S, tray: &mut [u8], at: usize) -> usize
 
 /// Writes the book where it fits, and gives its length in any case.
 fn put_book<S: PolicySource>(source: &S, tray: &mut [u8]) -> usize
-    ensures end { result ≡ length (pack_book (meaning source.now)) }
-    ensures tray { Puts tray.old 0 (pack_book (meaning source.now)) tray.new }
+    ensures end { result ≡ length (pack_book (S.meaning source.now)) }
+    ensures tray { Puts tray.old 0 (pack_book (S.meaning source.now)) tray.new }
 {
     let place = put_policy(source, Whose::Defaults, tray, 0);
     let _ = write_word(tray, place, source.len());
@@ -232,8 +232,8 @@ fn put_book<S: PolicySource>(source: &S, tray: &mut [u8]) -> usize
 
 /// Writes the packed book of a source at the front of the tray, and gives its length.
 pub fn write_book<S: PolicySource>(source: &S, tray: &mut [u8]) -> Result<usize, TrayTooShort>
-    ensures answer { result ≡ write_answer (pack_book (meaning source.now)) tray.old }
-    ensures tray { tray.new ≡ write_tray (pack_book (meaning source.now)) tray.old }
+    ensures answer { result ≡ write_answer (pack_book (S.meaning source.now)) tray.old }
+    ensures tray { tray.new ≡ write_tray (pack_book (S.meaning source.now)) tray.old }
 {
     let needed = put_book(source, &mut []);
     if tray.len() < needed {

@@ -7,11 +7,11 @@ use Rattle.grants.proofs.copies.append_defaults.Goals as goal
 pub loop-m-init : goal.loop-m-init
 loop-m-init g c = appends_none c.args.table.now c.args.end
 
-pub returns-in-default : goal.returns-in-default
-returns-in-default g c =
+pub returns-in_default : goal.returns-in_default
+returns-in_default g c =
     let ts = (g.S.PolicySource.meaning c.args.source.now).defaults.cc in
     subst (λ us. Appends c.args.table.now c.args.end us c.loop-m.table c.loop-m.end)
-    (take_all c.loop-m.m ts (nth_none ts c.loop-m.m c.in-default.ensures)) c.loop-m.invariant
+    (take_all c.loop-m.m ts (nth_none ts c.loop-m.m c.in_default.ensures)) c.loop-m.invariant
 
 pub loop-m-preserved : goal.loop-m-preserved
 loop-m-preserved g c =

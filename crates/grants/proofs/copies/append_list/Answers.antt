@@ -6,10 +6,10 @@ use Rattle.grants.proofs.copies.append_list.Goals as goal
 pub loop-m-init : goal.loop-m-init
 loop-m-init g c = appends_none c.args.table.now c.args.end
 
-pub returns-in-default : goal.returns-in-default
-returns-in-default g c =
+pub returns-in_default : goal.returns-in_default
+returns-in_default g c =
     subst (λ us. Appends c.args.table.now c.args.end us c.loop-m.table c.loop-m.end)
-    (no_cc (g.S.PolicySource.meaning c.args.source.now) c.args.n c.loop-m.m c.in-default.ensures) c.loop-m.invariant
+    (no_cc (g.S.PolicySource.meaning c.args.source.now) c.args.n c.loop-m.m c.in_default.ensures) c.loop-m.invariant
 
 pub loop-m-preserved : goal.loop-m-preserved
 loop-m-preserved g c =

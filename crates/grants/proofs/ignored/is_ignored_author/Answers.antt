@@ -8,19 +8,19 @@ use Rattle.grants.proofs.Said.{entry_read}
 use Rattle.grants.proofs.Searches.{joined_first, joined_second}
 use Rattle.grants.proofs.ignored.is_ignored_author.Goals as goal
 
-pub returns-then-is-ignored-by-defaults : goal.returns-then-is-ignored-by-defaults
-returns-then-is-ignored-by-defaults g c = joined_first _ (λ (e : Entry). e.policy.ignored_emails) _ (g.S.PolicySource.meaning c.args.source.now).lists c.if-is-ignored-by-defaults.ensures
+pub returns-then-is_ignored_by_defaults : goal.returns-then-is_ignored_by_defaults
+returns-then-is_ignored_by_defaults g c = joined_first _ (λ (e : Entry). e.policy.ignored_emails) _ (g.S.PolicySource.meaning c.args.source.now).lists c.if-is_ignored_by_defaults.ensures
 
-pub returns-then-is-ignored-by : goal.returns-then-is-ignored-by
-returns-then-is-ignored-by g c =
-    joined_second _ _ _ _ _ c.if-is-ignored-by-defaults.ensures
+pub returns-then-is_ignored_by : goal.returns-then-is_ignored_by
+returns-then-is_ignored_by g c =
+    joined_second _ _ _ _ _ c.if-is_ignored_by_defaults.ensures
     (some-found _ _ c.loop-n.n _ c.loop-n.invariant no_entry (search rules)
-    (ap (λ e. some (λ t. holds (small c.args.author.now) (small t)) e.policy.ignored_emails) (entry_read (g.S.PolicySource.meaning c.args.source.now) c.loop-n.n) ∙ sym c.if-is-ignored-by.ensures))
+    (ap (λ e. some (λ t. holds (small c.args.author.now) (small t)) e.policy.ignored_emails) (entry_read (g.S.PolicySource.meaning c.args.source.now) c.loop-n.n) ∙ sym c.if-is_ignored_by.ensures))
 
 pub loop-n-preserved : goal.loop-n-preserved
 loop-n-preserved g c =
     some_more _ _ c.loop-n.n _ c.loop-n.invariant no_entry (search rules)
-    (ap (λ e. some (λ t. holds (small c.args.author.now) (small t)) e.policy.ignored_emails) (entry_read (g.S.PolicySource.meaning c.args.source.now) c.loop-n.n) ∙ sym c.if-is-ignored-by.ensures)
+    (ap (λ e. some (λ t. holds (small c.args.author.now) (small t)) e.policy.ignored_emails) (entry_read (g.S.PolicySource.meaning c.args.source.now) c.loop-n.n) ∙ sym c.if-is_ignored_by.ensures)
 
 pub returns : goal.returns
-returns g c = joined_second _ _ _ _ _ c.if-is-ignored-by-defaults.ensures (some_all _ _ c.loop-n.n _ c.loop-n.invariant (search rules))
+returns g c = joined_second _ _ _ _ _ c.if-is_ignored_by_defaults.ensures (some_all _ _ c.loop-n.n _ c.loop-n.invariant (search rules))

@@ -3,14 +3,14 @@ use Rattle.mail.proofs.Searches.{some_all}
 use Rattle.grants.proofs.Searches.{some_next, some_hit, some-past}
 use Rattle.grants.proofs.ignored.is_ignored_by_defaults.Goals as goal
 
-pub returns-in-default : goal.returns-in-default
-returns-in-default g c = some-past _ _ c.loop-m.m _ c.loop-m.invariant c.in-default.ensures
+pub returns-in_default : goal.returns-in_default
+returns-in_default g c = some-past _ _ c.loop-m.m _ c.loop-m.invariant c.in_default.ensures
 
-pub returns-then-contains-small : goal.returns-then-contains-small
-returns-then-contains-small g c = some_hit _ _ c.loop-m.m _ c.loop-m.invariant c.in-Some.text.now c.in-Some.ensures (sym c.if-contains-small.ensures)
+pub returns-then-contains_small : goal.returns-then-contains_small
+returns-then-contains_small g c = some_hit _ _ c.loop-m.m _ c.loop-m.invariant c.in-Some.text.now c.in-Some.ensures (sym c.if-contains_small.ensures)
 
 pub loop-m-preserved : goal.loop-m-preserved
-loop-m-preserved g c = some_next _ _ c.loop-m.m _ c.loop-m.invariant c.in-Some.text.now c.in-Some.ensures (sym c.if-contains-small.ensures)
+loop-m-preserved g c = some_next _ _ c.loop-m.m _ c.loop-m.invariant c.in-Some.text.now c.in-Some.ensures (sym c.if-contains_small.ensures)
 
 -- a roll has no more texts than are asked
 pub returns : goal.returns

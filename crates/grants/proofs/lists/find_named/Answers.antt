@@ -12,7 +12,7 @@ pub loop-n-preserved : goal.loop-n-preserved
 loop-n-preserved c =
     let h : c.loop-n.n < length c.args.keys.now.entries.now = omega arith in
     mark_more _ c.args.marks.now _ c.loop-n.n c.loop-n.invariant _ false (omega (arith, named-length c.args.mail.now c.args.keys.now)) (omega arith)
-    (named_at c.args.mail.now c.args.keys.now c.loop-n.n _ c.part.result.now _ h c.part.ensures c.is-addressed.ensures)
+    (named_at c.args.mail.now c.args.keys.now c.loop-n.n _ c.part.result.now _ h c.part.ensures c.is_addressed.ensures)
 
 pub returns : goal.returns
 returns c =

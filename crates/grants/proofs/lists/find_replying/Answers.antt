@@ -11,7 +11,7 @@ loop-n-preserved g c =
     let h : c.loop-n.n < length c.args.named.now = omega arith in
     let k : c.loop-n.n < length (g.S.PolicySource.meaning c.args.source.now).lists = omega arith in
     mark_more _ c.args.marks.now _ c.loop-n.n c.loop-n.invariant _ false (replying-long _ _ _ _ _ h k) (omega arith)
-    (replies_at c.args.pass (g.S.PolicySource.meaning c.args.source.now) c.args.named.now c.loop-n.n _ h k c.replies-to-list.ensures)
+    (replies_at c.args.pass (g.S.PolicySource.meaning c.args.source.now) c.args.named.now c.loop-n.n _ h k c.replies_to_list.ensures)
 
 pub returns : goal.returns
 returns g c =

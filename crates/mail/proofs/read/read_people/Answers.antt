@@ -6,8 +6,8 @@ use Rattle.mail.proofs.read.read_people.Goals as goal
 pub returns : goal.returns
 returns c =
     appends_more c.args.table.now 0 (c.args.author.now ∷ []) c.append-first.new.table c.append-first.result
-    (viewed c.args.to.now.bytes.now ++ viewed c.args.cc.now.bytes.now) c.read-roll.new.table c.read-roll.result
+    (viewed c.args.to.now.bytes.now ++ viewed c.args.cc.now.bytes.now) c.read_roll.new.table c.read_roll.result
     c.append-first.auto.table c.append-first.ensures
-    (appends_more c.append-first.new.table c.append-first.result (viewed c.args.to.now.bytes.now) c.read-roll-second.new.table c.read-roll-second.result
-    (viewed c.args.cc.now.bytes.now) c.read-roll.new.table c.read-roll.result c.read-roll-second.auto.table c.read-roll-second.ensures c.read-roll.ensures)
+    (appends_more c.append-first.new.table c.append-first.result (viewed c.args.to.now.bytes.now) c.read_roll-second.new.table c.read_roll-second.result
+    (viewed c.args.cc.now.bytes.now) c.read_roll.new.table c.read_roll.result c.read_roll-second.auto.table c.read_roll-second.ensures c.read_roll.ensures)
     [] (holds-empty c.args.table.now)

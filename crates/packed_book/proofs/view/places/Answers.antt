@@ -6,4 +6,4 @@ pub loop-i-init : goal.loop-i-init
 loop-i-init c = filled_none c.args.bytes.now c.args.at _ refl c.requires.there
 
 pub loop-i-preserved : goal.loop-i-preserved
-loop-i-preserved c = filled_more c.loop-i.invariant (omega arith) c.next-place-here.result c.next-place-here.ensures.value (c.next-place-here.ensures.bound c.loop-i.invariant.within)
+loop-i-preserved c = filled_more c.loop-i.invariant (omega arith) c.next_place-here.result c.next_place-here.ensures.value (c.next_place-here.ensures.bound c.loop-i.invariant.within)

@@ -7,29 +7,29 @@ use Rattle.packed_book.proofs.Puts.{puts_none, puts_then}
 use Rattle.packed_book.proofs.Rows.{list_none, list_some, list_size}
 use Rattle.packed_book.proofs.write.put_list.Goals as goal
 
-pub returns-in-default : goal.returns-in-default
-returns-in-default g c =
-    let e = list_none (slice_get (g.S.PolicySource.meaning c.args.source.now).lists c.args.n) c.in-default.ensures in
+pub returns-in_default : goal.returns-in_default
+returns-in_default g c =
+    let e = list_none (slice_get (g.S.PolicySource.meaning c.args.source.now).lists c.args.n) c.in_default.ensures in
     rw e record { end = omega arith; tray = puts_none c.args.tray.now c.args.at }
 
-pub put-text-place-requires : goal.put-text-place-requires
-put-text-place-requires g c =
+pub put_text-place-requires : goal.put_text-place-requires
+put_text-place-requires g c =
     let s = list_size (slice_get (g.S.PolicySource.meaning c.args.source.now).lists c.args.n) c.in-Some.key.now c.in-Some.ensures in
     let h = c.requires in
     omega arith
 
-pub put-policy-requires : goal.put-policy-requires
-put-policy-requires g c =
+pub put_policy-requires : goal.put_policy-requires
+put_policy-requires g c =
     let s = list_size (slice_get (g.S.PolicySource.meaning c.args.source.now).lists c.args.n) c.in-Some.key.now c.in-Some.ensures in
     let h = c.requires in
-    let e = c.put-text-place.ensures.end in
+    let e = c.put_text-place.ensures.end in
     omega arith
 
 pub returns : goal.returns
 returns g c =
     let s = list_some (slice_get (g.S.PolicySource.meaning c.args.source.now).lists c.args.n) c.in-Some.key.now c.in-Some.ensures in
     let n = list_size (slice_get (g.S.PolicySource.meaning c.args.source.now).lists c.args.n) c.in-Some.key.now c.in-Some.ensures in
-    let e = c.put-text-place.ensures.end in
-    let f = c.put-policy.ensures.end in
-    let a = puts_then c.args.tray.now c.put-text-place.new.tray c.put-policy.new.tray (pack_text c.in-Some.key.now) (pack_policy (listed (slice_get (g.S.PolicySource.meaning c.args.source.now).lists c.args.n))) c.args.at c.put-text-place.result c.put-text-place.ensures.tray e c.put-policy.ensures.tray in
-    record { end = omega arith; tray = subst (λ (x : List ℕ). Puts c.args.tray.now c.args.at x c.put-policy.new.tray) (sym s) a }
+    let e = c.put_text-place.ensures.end in
+    let f = c.put_policy.ensures.end in
+    let a = puts_then c.args.tray.now c.put_text-place.new.tray c.put_policy.new.tray (pack_text c.in-Some.key.now) (pack_policy (listed (slice_get (g.S.PolicySource.meaning c.args.source.now).lists c.args.n))) c.args.at c.put_text-place.result c.put_text-place.ensures.tray e c.put_policy.ensures.tray in
+    record { end = omega arith; tray = subst (λ (x : List ℕ). Puts c.args.tray.now c.args.at x c.put_policy.new.tray) (sym s) a }

@@ -7,8 +7,8 @@ use Rattle.packed_book.proofs.write.put_lists.Goals as goal
 pub loop-n-init : goal.loop-n-init
 loop-n-init g c = left_start pack_entry (g.S.PolicySource.meaning c.args.source.now).lists c.args.tray.now c.args.at
 
-pub put-list-end-requires : goal.put-list-end-requires
-put-list-end-requires g c =
+pub put_list-end-requires : goal.put_list-end-requires
+put_list-end-requires g c =
     let r = list_room (g.S.PolicySource.meaning c.args.source.now).lists c.loop-n.n c.args.tray.now c.loop-n.tray c.args.at c.loop-n.end c.loop-n.invariant (omega arith) in
     let h = c.requires in
     omega arith
@@ -16,7 +16,7 @@ put-list-end-requires g c =
 pub loop-n-preserved : goal.loop-n-preserved
 loop-n-preserved g c =
     list_more (g.S.PolicySource.meaning c.args.source.now).lists c.loop-n.n c.args.tray.now c.loop-n.tray c.args.at c.loop-n.end c.loop-n.invariant (omega arith)
-    c.put-list-end.new.tray c.put-list-end.result c.put-list-end.ensures.tray c.put-list-end.ensures.end c.put-list-end.auto.tray
+    c.put_list-end.new.tray c.put_list-end.result c.put_list-end.ensures.tray c.put_list-end.ensures.end c.put_list-end.auto.tray
 
 pub returns : goal.returns
 returns g c =

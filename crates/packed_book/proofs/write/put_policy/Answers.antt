@@ -3,42 +3,42 @@ use Rattle.packed_book.specs.Rows.{record_of}
 use Rattle.packed_book.proofs.Rows.{policy_size, policy_puts}
 use Rattle.packed_book.proofs.write.put_policy.Goals as goal
 
-pub put-byte-rank-requires : goal.put-byte-rank-requires
-put-byte-rank-requires g c =
-    let s = policy_size (record_of (g.S.PolicySource.meaning c.args.source.now) c.args.whose) c.reply-byte.result _ _ c.reply-byte.ensures refl refl in
+pub put_byte-rank-requires : goal.put_byte-rank-requires
+put_byte-rank-requires g c =
+    let s = policy_size (record_of (g.S.PolicySource.meaning c.args.source.now) c.args.whose) c.reply_byte.result _ _ c.reply_byte.ensures refl refl in
     let h = c.requires in
     omega arith
 
-pub put-byte-mute-requires : goal.put-byte-mute-requires
-put-byte-mute-requires g c =
-    let s = policy_size (record_of (g.S.PolicySource.meaning c.args.source.now) c.args.whose) c.reply-byte.result c.rank-byte.result _ c.reply-byte.ensures c.rank-byte.ensures refl in
+pub put_byte-mute-requires : goal.put_byte-mute-requires
+put_byte-mute-requires g c =
+    let s = policy_size (record_of (g.S.PolicySource.meaning c.args.source.now) c.args.whose) c.reply_byte.result c.rank_byte.result _ c.reply_byte.ensures c.rank_byte.ensures refl in
     let h = c.requires in
     omega arith
 
-pub put-byte-cc-requires : goal.put-byte-cc-requires
-put-byte-cc-requires g c =
-    let s = policy_size (record_of (g.S.PolicySource.meaning c.args.source.now) c.args.whose) c.reply-byte.result c.rank-byte.result c.mute-byte.result c.reply-byte.ensures c.rank-byte.ensures c.mute-byte.ensures in
+pub put_byte-cc-requires : goal.put_byte-cc-requires
+put_byte-cc-requires g c =
+    let s = policy_size (record_of (g.S.PolicySource.meaning c.args.source.now) c.args.whose) c.reply_byte.result c.rank_byte.result c.mute_byte.result c.reply_byte.ensures c.rank_byte.ensures c.mute_byte.ensures in
     let h = c.requires in
     omega arith
 
-pub put-roll-ignored-requires : goal.put-roll-ignored-requires
-put-roll-ignored-requires g c =
-    let s = policy_size (record_of (g.S.PolicySource.meaning c.args.source.now) c.args.whose) c.reply-byte.result c.rank-byte.result c.mute-byte.result c.reply-byte.ensures c.rank-byte.ensures c.mute-byte.ensures in
+pub put_roll-ignored-requires : goal.put_roll-ignored-requires
+put_roll-ignored-requires g c =
+    let s = policy_size (record_of (g.S.PolicySource.meaning c.args.source.now) c.args.whose) c.reply_byte.result c.rank_byte.result c.mute_byte.result c.reply_byte.ensures c.rank_byte.ensures c.mute_byte.ensures in
     let h = c.requires in
     omega arith
 
-pub put-roll-requires : goal.put-roll-requires
-put-roll-requires g c =
-    let s = policy_size (record_of (g.S.PolicySource.meaning c.args.source.now) c.args.whose) c.reply-byte.result c.rank-byte.result c.mute-byte.result c.reply-byte.ensures c.rank-byte.ensures c.mute-byte.ensures in
+pub put_roll-requires : goal.put_roll-requires
+put_roll-requires g c =
+    let s = policy_size (record_of (g.S.PolicySource.meaning c.args.source.now) c.args.whose) c.reply_byte.result c.rank_byte.result c.mute_byte.result c.reply_byte.ensures c.rank_byte.ensures c.mute_byte.ensures in
     let h = c.requires in
     omega arith
 
 pub returns : goal.returns
 returns g c =
     let a =
-    policy_puts (record_of (g.S.PolicySource.meaning c.args.source.now) c.args.whose) c.reply-byte.result c.rank-byte.result c.mute-byte.result c.reply-byte.ensures c.rank-byte.ensures c.mute-byte.ensures
-    c.args.tray.now c.put-byte-reply.new.tray c.put-byte-rank.new.tray c.put-byte-mute.new.tray c.put-byte-cc.new.tray c.put-roll-ignored.new.tray c.put-roll.new.tray
-    c.args.at c.bit_map.result c.put-byte-reply.result c.put-byte-rank.result c.put-byte-mute.result c.put-byte-cc.result c.put-roll-ignored.result c.put-roll.result
-    c.bit_map.ensures c.put-byte-reply.ensures.tray c.put-byte-reply.ensures.end c.put-byte-rank.ensures.tray c.put-byte-rank.ensures.end c.put-byte-mute.ensures.tray c.put-byte-mute.ensures.end
-    c.put-byte-cc.ensures.tray c.put-byte-cc.ensures.end c.put-roll-ignored.ensures.tray c.put-roll-ignored.ensures.end c.put-roll.ensures.tray c.put-roll.ensures.end in
+    policy_puts (record_of (g.S.PolicySource.meaning c.args.source.now) c.args.whose) c.reply_byte.result c.rank_byte.result c.mute_byte.result c.reply_byte.ensures c.rank_byte.ensures c.mute_byte.ensures
+    c.args.tray.now c.put_byte-reply.new.tray c.put_byte-rank.new.tray c.put_byte-mute.new.tray c.put_byte-cc.new.tray c.put_roll-ignored.new.tray c.put_roll.new.tray
+    c.args.at c.bit_map.result c.put_byte-reply.result c.put_byte-rank.result c.put_byte-mute.result c.put_byte-cc.result c.put_roll-ignored.result c.put_roll.result
+    c.bit_map.ensures c.put_byte-reply.ensures.tray c.put_byte-reply.ensures.end c.put_byte-rank.ensures.tray c.put_byte-rank.ensures.end c.put_byte-mute.ensures.tray c.put_byte-mute.ensures.end
+    c.put_byte-cc.ensures.tray c.put_byte-cc.ensures.end c.put_roll-ignored.ensures.tray c.put_roll-ignored.ensures.end c.put_roll.ensures.tray c.put_roll.ensures.end in
     record { end = a.0; tray = a.1 }

@@ -8,16 +8,16 @@ use Rattle.packed_book.proofs.write.put_texts.Goals as goal
 pub loop-m-init : goal.loop-m-init
 loop-m-init g c = left_start pack_text (texts_of c.args.part (record_of (g.S.PolicySource.meaning c.args.source.now) c.args.whose)) c.args.tray.now c.args.at
 
-pub returns-in-default : goal.returns-in-default
+pub returns-in_default : goal.returns-in_default
 unfolding pack_texts
-returns-in-default g c =
-    let n = nth_none (texts_of c.args.part (record_of (g.S.PolicySource.meaning c.args.source.now) c.args.whose)) c.loop-m.m c.in-default.ensures in
+returns-in_default g c =
+    let n = nth_none (texts_of c.args.part (record_of (g.S.PolicySource.meaning c.args.source.now) c.args.whose)) c.loop-m.m c.in_default.ensures in
     let a = left_all pack_text (texts_of c.args.part (record_of (g.S.PolicySource.meaning c.args.source.now) c.args.whose)) c.loop-m.m c.args.tray.now c.loop-m.tray c.args.at c.loop-m.end c.loop-m.invariant n in
     record { end = a.0; tray = a.1 }
 
-pub put-text-end-requires : goal.put-text-end-requires
+pub put_text-end-requires : goal.put_text-end-requires
 unfolding pack_texts
-put-text-end-requires g c =
+put_text-end-requires g c =
     let r = left_room pack_text (texts_of c.args.part (record_of (g.S.PolicySource.meaning c.args.source.now) c.args.whose)) c.loop-m.m c.args.tray.now c.loop-m.tray c.args.at c.loop-m.end c.loop-m.invariant c.in-Some.text.now c.in-Some.ensures in
     let h = c.requires in
     omega arith
@@ -25,7 +25,7 @@ put-text-end-requires g c =
 pub loop-m-preserved : goal.loop-m-preserved
 loop-m-preserved g c =
     left_more pack_text (texts_of c.args.part (record_of (g.S.PolicySource.meaning c.args.source.now) c.args.whose)) c.loop-m.m c.args.tray.now c.loop-m.tray c.args.at c.loop-m.end c.loop-m.invariant c.in-Some.text.now c.in-Some.ensures
-    c.put-text-end.new.tray c.put-text-end.result c.put-text-end.ensures.tray c.put-text-end.ensures.end c.put-text-end.auto.tray
+    c.put_text-end.new.tray c.put_text-end.result c.put_text-end.ensures.tray c.put_text-end.ensures.end c.put_text-end.auto.tray
 
 pub returns : goal.returns
 unfolding pack_texts

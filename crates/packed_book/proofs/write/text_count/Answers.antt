@@ -4,9 +4,9 @@ use Rattle.packed_book.proofs.Puts.{nth_some, nth_none}
 use Rattle.packed_book.proofs.Rows.{texts-few}
 use Rattle.packed_book.proofs.write.text_count.Goals as goal
 
-pub returns-in-default : goal.returns-in-default
-returns-in-default g c =
-    let n = nth_none (texts_of c.args.part (record_of (g.S.PolicySource.meaning c.args.source.now) c.args.whose)) c.loop-m.m c.in-default.ensures in
+pub returns-in_default : goal.returns-in_default
+returns-in_default g c =
+    let n = nth_none (texts_of c.args.part (record_of (g.S.PolicySource.meaning c.args.source.now) c.args.whose)) c.loop-m.m c.in_default.ensures in
     let i = c.loop-m.invariant in
     record { value = omega arith; few = omega arith }
 

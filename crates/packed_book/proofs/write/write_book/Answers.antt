@@ -5,8 +5,8 @@ use Rattle.packed_book.proofs.write.write_book.Goals as goal
 
 pub returns : goal.returns
 returns g c =
-    let n = c.put-book-needed.ensures.end in
+    let n = c.put_book-needed.ensures.end in
     record {
-      answer = book_answer (pack_book (g.S.PolicySource.meaning c.args.source.now)) c.args.tray.now c.put-book-end.result c.put-book-end.ensures.end (omega arith);
-      tray = book_tray (pack_book (g.S.PolicySource.meaning c.args.source.now)) c.args.tray.now c.put-book-end.new.tray (omega arith) c.put-book-end.ensures.tray;
+      answer = book_answer (pack_book (g.S.PolicySource.meaning c.args.source.now)) c.args.tray.now c.put_book-end.result c.put_book-end.ensures.end (omega arith);
+      tray = book_tray (pack_book (g.S.PolicySource.meaning c.args.source.now)) c.args.tray.now c.put_book-end.new.tray (omega arith) c.put_book-end.ensures.tray;
     }

@@ -12,8 +12,8 @@ use Rattle.recipients.proofs.People.{length-people}
 use Rattle.recipients.proofs.Written.{written_more, written_all}
 use Rattle.recipients.proofs.choice.mark_cc.Goals as goal
 
-pub takes-part-in-cc-requires : goal.takes-part-in-cc-requires
-takes-part-in-cc-requires c = omega (arith, c.args.mail.now.counted, length-people c.args.mail.now, length-map c.args.grant.now.cc.entries.now text_in)
+pub takes_part_in_cc-requires : goal.takes_part_in_cc-requires
+takes_part_in_cc-requires c = omega (arith, c.args.mail.now.counted, length-people c.args.mail.now, length-map c.args.grant.now.cc.entries.now text_in)
 
 pub loop-i-init : goal.loop-i-init
 loop-i-init c =
@@ -24,9 +24,9 @@ pub loop-i-preserved : goal.loop-i-preserved
 loop-i-preserved c =
     let taken : List Text = marked c.args.to.now ((letter c.args.mail.now).author ∷ (letter c.args.mail.now).to) in
     written_more (cc_marks (texts c.args.keys.now) (letter c.args.mail.now) (meant (texts c.args.keys.now) c.args.grant.now) c.args.individuals taken)
-    c.args.marks.now c.loop-i.marks c.loop-i.i c.min-i-end.result c.takes-part-in-cc.result false
+    c.args.marks.now c.loop-i.marks c.loop-i.i c.min-i-end.result c.takes_part_in_cc.result false
     (cc_marks_fill (texts c.args.keys.now) c.args.mail.now c.args.grant.now c.args.individuals taken c.args.marks.now c.min-i-end.result c.min-i-end.ensures)
-    c.loop-i-test.true c.loop-i.invariant c.takes-part-in-cc.ensures
+    c.loop-i-test.true c.loop-i.invariant c.takes_part_in_cc.ensures
 
 pub returns : goal.returns
 returns c =

@@ -10,15 +10,15 @@ use Rattle.recipients.proofs.choice.mark_to.Goals as goal
 pub loop-k-init : goal.loop-k-init
 loop-k-init c = sym (over_none (to_marks (texts c.args.keys.now) (letter c.args.mail.now) (meant (texts c.args.keys.now) c.args.grant.now) c.args.individuals) c.args.marks.now)
 
-pub takes-part-in-to-requires : goal.takes-part-in-to-requires
-takes-part-in-to-requires c = omega arith
+pub takes_part_in_to-requires : goal.takes_part_in_to-requires
+takes_part_in_to-requires c = omega arith
 
 pub loop-k-preserved : goal.loop-k-preserved
 loop-k-preserved c =
     written_more (to_marks (texts c.args.keys.now) (letter c.args.mail.now) (meant (texts c.args.keys.now) c.args.grant.now) c.args.individuals)
-    c.args.marks.now c.loop-k.marks c.loop-k.k c.min-k-end.result c.takes-part-in-to.result false
+    c.args.marks.now c.loop-k.marks c.loop-k.k c.min-k-end.result c.takes_part_in_to.result false
     (to_marks_fill (texts c.args.keys.now) c.args.mail.now (meant (texts c.args.keys.now) c.args.grant.now) c.args.individuals c.args.marks.now c.min-k-end.result c.min-k-end.ensures)
-    c.loop-k-test.true c.loop-k.invariant c.takes-part-in-to.ensures
+    c.loop-k-test.true c.loop-k.invariant c.takes_part_in_to.ensures
 
 pub returns : goal.returns
 returns c =

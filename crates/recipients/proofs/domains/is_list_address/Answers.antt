@@ -7,4 +7,4 @@ pub returns-then-has : goal.returns-then-has
 returns-then-has c = listed_by_key (texts c.args.keys.now) c.args.part.now c.if-has.ensures
 
 pub returns : goal.returns
-returns c = listed_by_domain (texts c.args.keys.now) c.args.part.now _ _ refl c.if-has.ensures c.is-at-one-of.ensures
+returns c = listed_by_domain (texts c.args.keys.now) c.args.part.now _ _ refl c.if-has.ensures c.is_at_one_of.ensures

@@ -12,13 +12,13 @@ pub loop-i-init : goal.loop-i-init
 loop-i-init c =
     sym (over_none (map (counts (listed_by (texts c.args.keys.now)) (letter c.args.mail.now) (meant (texts c.args.keys.now) c.args.grant.now)) (incoming (letter c.args.mail.now))) c.args.marks.now)
 
-pub is-counted-requires : goal.is-counted-requires
-is-counted-requires c = omega (arith, c.requires)
+pub is_counted-requires : goal.is_counted-requires
+is_counted-requires c = omega (arith, c.requires)
 
 pub loop-i-preserved : goal.loop-i-preserved
 loop-i-preserved c =
     mapped_more (counts (listed_by (texts c.args.keys.now)) (letter c.args.mail.now) (meant (texts c.args.keys.now) c.args.grant.now)) (incoming (letter c.args.mail.now)) c.args.marks.now c.requires
-    c.loop-i.marks c.loop-i.i c.is-counted.result [] c.loop-i-test.true c.loop-i.invariant c.is-counted.ensures
+    c.loop-i.marks c.loop-i.i c.is_counted.result [] c.loop-i-test.true c.loop-i.invariant c.is_counted.ensures
 
 pub returns : goal.returns
 returns c =

@@ -6,5 +6,5 @@ use Rattle.mail.proofs.candidates.CandidatesRollMailMailboxes.is_same.Goals as g
 
 pub returns : goal.returns
 returns c =
-    same_when c.eq-ignore-ascii-case.result _ _ (cases_from_iff c.eq-ignore-ascii-case.ensures.test)
+    same_when c.eq_ignore_ascii_case.result _ _ (cases_from_iff c.eq_ignore_ascii_case.ensures.test)
     ∙ (λ i. same_part (c.part-one.ensures i) (c.part-other.ensures i))
