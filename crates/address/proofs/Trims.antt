@@ -1,7 +1,7 @@
 -- Trimming takes the blanks at both ends and nothing else.
 use Rattle.std.proofs.Common.{◌≡◌, ℕ, zero, suc, ◌+◌, ◌-◌, ◌≤◌, Bool, true, false, cond, List, [], ◌∷◌, ◌++◌, reverse, length, take, drop, sym, refl, ap, ◌∙◌, subst, one-add, arith, length-append, length-take}
 use mathlib.Core.List.{reverse-append, reverse-reverse}
-use Rattle.std.specs.List.{prefix_len, suffix_len, AllByRecursion as All}
+use Rattle.std.specs.List.{prefix_len, suffix_len, AllByRecursion}
 use Rattle.std.proofs.ByRecursion.{All-append}
 use Rattle.std.proofs.lemmas.List.{take-append-drop, take-append-le, take_all, length-reverse}
 use Rattle.std.proofs.lemmas.List.Sums.{prefix_len-le-length}
@@ -10,7 +10,7 @@ use Rattle.address.specs.Text.{Text, blank, unindented, unpadded, trimmed}
 use Rattle.address.specs.Laws.{Firm, Trimming}
 
 abbrev Blanks : Text → Type 0
-Blanks t = All (λ b. blank b ≡ true) t
+Blanks t = AllByRecursion (λ b. blank b ≡ true) t
 
 -- empty, or with no blank in front
 abbrev FirmFront : Text → Type 0

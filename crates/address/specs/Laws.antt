@@ -1,7 +1,7 @@
 -- What holds of texts and addresses, in words that do without the scanner.
 use Rattle.std.specs.Prelude.{◌≡◌, ℕ, suc, true, false, ◌↔◌, List, [], ◌∷◌, ◌++◌, map, length, replicate, ◌≢◌}
 use Rattle.std.specs.Option.{option_map}
-use Rattle.std.specs.List.{AllByRecursion as All}
+use Rattle.std.specs.List.{AllByRecursion}
 use Rattle.address.specs.Text.{Text, blank, trimmed, small, holds}
 use Rattle.address.specs.Quoted.{unquoted}
 use Rattle.address.specs.Address.{bare, domain}
@@ -29,7 +29,7 @@ pub record Firm (t : Text) : Type 0 where
 
 pub record Trimming : Type 0 where
   -- only blanks go
-  pub parts : (t : Text) → (before : Text) × (after : Text) × All (λ b. blank b ≡ true) before × All (λ b. blank b ≡ true) after × (t ≡ before ++ (trimmed t ++ after))
+  pub parts : (t : Text) → (before : Text) × (after : Text) × AllByRecursion (λ b. blank b ≡ true) before × AllByRecursion (λ b. blank b ≡ true) after × (t ≡ before ++ (trimmed t ++ after))
   -- and all at both ends do
   pub firm : (t : Text) → Firm (trimmed t)
   pub idempotent : (t : Text) → trimmed (trimmed t) ≡ trimmed t

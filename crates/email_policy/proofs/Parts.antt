@@ -2,7 +2,7 @@
 use Rattle.std.proofs.Common.{◌≡◌, ℕ, ◌+◌, ◌%◌, ◌<◌, ◌≤◌, Bool, true, false, not, ◌||◌, eqb, ltb, leb, List, [], ◌∷◌, length, get_or, is_some, Some, None, Ok, Err, Option, Result, sym, refl, ap, ◌∙◌, subst, ⊎_elim, arith}
 use Rattle.std.proofs.lemmas.List.{length-append}
 use Rattle.std.proofs.lemmas.Bool.{le-leb, lt-ltb, leb-true, ltb-true, eqb-true, eq-eqb, and_parts, and_from, or_cases, or_left, or_right, both_ways, not-true, not_from_false, cases_Bool, cond-true}
-use Rattle.std.specs.List.{AllByRecursion as All}
+use Rattle.std.specs.List.{AllByRecursion}
 use Rattle.address.specs.Text.{Text}
 use Rattle.roll.specs.Packing.{word, pack_text, pack_texts, pack_roll}
 use Rattle.roll.specs.Ends.{roll_end}
@@ -48,7 +48,7 @@ some-there [] h = absurd (omega arith)
 some-there (t ∷ ts) h = (refl, refl)
 
 -- each text is shorter than their roll
-pub texts_short : (n : ℕ) (ts : List Text) → length (pack_texts ts) ≤ n → All (λ t. length t ≤ n) ts
+pub texts_short : (n : ℕ) (ts : List Text) → length (pack_texts ts) ≤ n → AllByRecursion (λ t. length t ≤ n) ts
 unfolding pack_texts
 texts_short n [] h = tt
 texts_short n (t ∷ ts) h =

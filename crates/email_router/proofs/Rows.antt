@@ -150,14 +150,6 @@ module _ (text : ℕ → Text) (places : List ℕ) (few : length places ≤ 9249
       texts_room = omega (arith, part_long, count_end)
 
       pub part_wrote : (mid tray : List ℕ) (end : ℕ) → mid ≡ put (ltb k 65536) d at (word k) → end ≡ first + length (rows text places) → tray ≡ written mid first (rows text places) → (end ≡ at + length (pack_part (map text places))) × (tray ≡ written d at (pack_part (map text places)))
-<<<<<<< HEAD
-      part_wrote mid tray end counts ends holds =
-          (omega (arith, part_long, count_end),
-           holds
-           ∙ ap (λ x. written x first (rows text places)) (counts ∙ put_written (ltb k 65536) d at (word k) may_count count_room)
-           ∙ written-append (word k) (rows text places) d at first count_end
-           ∙ ap (written d at) (sym part_is))
-=======
       part_wrote mid tray end counts ends holds = (
         omega (arith, part_long, count_end),
         holds
@@ -165,4 +157,3 @@ module _ (text : ℕ → Text) (places : List ℕ) (few : length places ≤ 9249
             ∙ written-append (word k) (rows text places) d at first count_end
             ∙ ap (written d at) (sym part_is),
       )
->>>>>>> a7a10b97818064654bde19d19074db548dd01709

@@ -10,19 +10,16 @@ ghost use Rattle.email_router.specs.Bounds.{SmallAction};
 ghost use Rattle.email_router.specs.Door.{slots_needed};
 ghost use Rattle.email_router.specs.Envelope.{rank_bits, send_map, nothing, pack_sent};
 ghost use Rattle.email_router.specs.Given.{given, answered};
+
 use crate::action::Action;
 use crate::fault::RouterFault;
 use crate::measure::action_len;
 use crate::recipients::Recipients;
 use address::trim;
 use email_policy::PositiveReviewPolicy;
-use keep_first::keep_first;
-use mail::Candidates;
-use keep_first::Roll;
-use mail::Mail;
-use mail::Mailboxes;
-use roll::write_text;
-use roll::write_word;
+use keep_first::{Roll, keep_first};
+use mail::{Candidates, Mail, Mailboxes};
+use roll::{write_text, write_word};
 
 /// Writes the texts at these places of a roll, trimmed, one after another, and gives the place after them.
 fn write_texts(
@@ -96,18 +93,14 @@ fn send_map(to: bool, cc: bool, rank: PositiveReviewPolicy) -> u8
 }
 
 /// Writes the answer to the front of the tray.
-<<<<<<< HEAD
-fn write_action(mail: &Mail<'_, '_>, recipients: &Recipients<'_, '_, '_>, action: Action, rank: PositiveReviewPolicy, slots: &mut [u16], tray: &mut [u8])
-=======
 fn write_action(
     mail: &Mail<'_, '_>,
-    recipients: &Recipients<'_, '_>,
+    recipients: &Recipients<'_, '_, '_>,
     action: Action,
     rank: PositiveReviewPolicy,
     slots: &mut [u16],
     tray: &mut [u8],
 )
->>>>>>> a7a10b97818064654bde19d19074db548dd01709
     requires action { action ≡ action_of (sent_to recipients.now mail.now) rank }
     requires slots { slots_needed ≤ length slots.old }
     requires room { length (pack_sent (sent_to recipients.now mail.now) rank) ≤ length tray.old }
@@ -136,18 +129,14 @@ fn clear(slots: &mut [u16])
 
 /// Writes the answer to the front of the tray and leaves every slot 0. Where the tray is too short, nothing is changed: the
 /// length was worked out before the first slot is written.
-<<<<<<< HEAD
-pub(crate) fn deliver(mail: &Mail<'_, '_>, recipients: &Recipients<'_, '_, '_>, action: Action, rank: PositiveReviewPolicy, scratch: &mut [u16], tray: &mut [u8]) -> Result<usize, RouterFault>
-=======
 pub(crate) fn deliver(
     mail: &Mail<'_, '_>,
-    recipients: &Recipients<'_, '_>,
+    recipients: &Recipients<'_, '_, '_>,
     action: Action,
     rank: PositiveReviewPolicy,
     scratch: &mut [u16],
     tray: &mut [u8],
 ) -> Result<usize, RouterFault>
->>>>>>> a7a10b97818064654bde19d19074db548dd01709
     requires action { action ≡ action_of (sent_to recipients.now mail.now) rank }
     requires small { SmallAction action }
     requires slots { slots_needed ≤ length scratch.old }

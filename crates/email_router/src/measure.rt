@@ -3,16 +3,13 @@ ghost use Rattle.std.specs.Prelude.{◌≡◌, ◌*◌, ◌≤◌};
 ghost use Rattle.mail.specs.Rolls.{mailed};
 ghost use Rattle.email_router.specs.Actions.{sent_to, size_of, action_of, part_size, action_size};
 ghost use Rattle.email_router.specs.Bounds.{Small, SmallAction};
-use crate::action::Action;
-use crate::action::Size;
+
+use crate::action::{Action, Size};
 use crate::recipients::Recipients;
 use address::trim;
 use email_policy::PositiveReviewPolicy;
-use keep_first::standing;
-use mail::Candidates;
-use keep_first::Roll;
-use mail::Mail;
-use mail::Mailboxes;
+use keep_first::{Roll, standing};
+use mail::{Candidates, Mail, Mailboxes};
 
 /// The size of the roll that these candidates make.
 fn measure(roll: &Candidates<'_>, mail: &Mail<'_, '_>, added: &Mailboxes<'_, '_>) -> Size
@@ -31,15 +28,11 @@ fn measure(roll: &Candidates<'_>, mail: &Mail<'_, '_>, added: &Mailboxes<'_, '_>
 }
 
 /// The answer that mails these recipients: mute where there are none.
-<<<<<<< HEAD
-pub(crate) fn answer(mail: &Mail<'_, '_>, recipients: &Recipients<'_, '_, '_>, positive_review: PositiveReviewPolicy) -> Action
-=======
 pub(crate) fn answer(
     mail: &Mail<'_, '_>,
-    recipients: &Recipients<'_, '_>,
+    recipients: &Recipients<'_, '_, '_>,
     positive_review: PositiveReviewPolicy,
 ) -> Action
->>>>>>> a7a10b97818064654bde19d19074db548dd01709
     ensures action { result ≡ action_of (sent_to recipients.now mail.now) positive_review }
     ensures small { SmallAction result }
 {

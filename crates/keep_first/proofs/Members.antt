@@ -1,6 +1,6 @@
 -- Membership by clauses, and what filters, maps and `some` do to it.
 use Rattle.std.proofs.Common.{◌≡◌, zero, suc, Bool, true, false, not, ◌⊎◌, List, [], ◌∷◌, ◌++◌, map, filter, sym, refl, ap, ◌∙◌, inl, inr, arith}
-use Rattle.std.specs.List.{ContainsAt as Has, AllByRecursion as All}
+use Rattle.std.specs.List.{ContainsAt as Has, AllByRecursion}
 use Rattle.std.proofs.lemmas.Bool.{cases_Bool, both_ways, true≢false, not-true, or_cases, or_left, or_right, cond_both}
 use Rattle.std.proofs.ByRecursion.{all-has, All-weaker}
 use Rattle.keep_first.specs.Keep.{some}
@@ -10,7 +10,7 @@ In x [] = ⊥
 In x (y ∷ ys) = (y ≡ x) ⊎ In x ys
 
 module _ {X : Type 0} where
-  all_in : (xs : List X) → All (λ y. In y xs) xs
+  all_in : (xs : List X) → AllByRecursion (λ y. In y xs) xs
   all_in [] = tt
   all_in (x ∷ xs) = (inl refl, All-weaker (λ y. In y xs) (λ y. In y (x ∷ xs)) (λ y i. inr i) xs (all_in xs))
 

@@ -1,6 +1,6 @@
 -- Hex, step by step, and read back.
 use Rattle.std.proofs.Common.{◌≡◌, ℕ, suc, ◌+◌, ◌-◌, ◌*◌, ◌/◌, ◌%◌, ◌<◌, ◌≤◌, Bool, true, false, cond, ◌&&◌, eqb, ltb, leb, List, [], ◌∷◌, ◌++◌, length, get_or, take, drop, Some, None, Option, sym, refl, ap, ◌∙◌, arith}
-use Rattle.std.specs.List.{flat_map, AllByRecursion as All}
+use Rattle.std.specs.List.{flat_map, AllByRecursion}
 use Rattle.std.specs.Str.{bytes_eq}
 use Rattle.std.proofs.lemmas.List.{append_assoc, flat_map_more, take_more, take_rest}
 use Rattle.std.proofs.lemmas.Bool.Decides.{nat_tests}
@@ -37,7 +37,7 @@ byte_back b h =
     let low = digit_back (b % 16) (omega arith) in
     (λ i. byte_of (high i) (low i)) ∙ ap Some (omega arith)
 
-bytes_back : (bs : List ℕ) → All (λ b. b < 256) bs → bytes_of (flat_map digits bs) ≡ Some bs
+bytes_back : (bs : List ℕ) → AllByRecursion (λ b. b < 256) bs → bytes_of (flat_map digits bs) ≡ Some bs
 bytes_back [] a = refl
 bytes_back (b ∷ bs) a = (λ i. before (byte_back b a.0 i) (bytes_back bs a.1 i))
 

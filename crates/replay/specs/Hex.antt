@@ -1,6 +1,6 @@
 -- Bytes as text: two lower-case hex digits to a byte, and `-` for no bytes.
 use Rattle.std.specs.Prelude.{◌≡◌, ℕ, ◌+◌, ◌-◌, ◌*◌, ◌/◌, ◌%◌, ◌<◌, Bool, true, false, cond, ◌&&◌, List, [], ◌∷◌, ◌++◌, Some, None, Option, nat_le, nat_lt}
-use Rattle.std.specs.List.{flat_map, AllByRecursion as All}
+use Rattle.std.specs.List.{flat_map, AllByRecursion}
 use Rattle.std.specs.Str.{bytes_eq}
 
 -- 0 to 9 and a to f
@@ -40,4 +40,4 @@ unhex (c ∷ t) = cond (bytes_eq (c ∷ t) (45 ∷ [])) (Some []) (bytes_of (c �
 
 -- what is printed can be read again
 abbrev pub HexReadsBack : Type 0
-HexReadsBack = (bs : List ℕ) → All (λ b. b < 256) bs → unhex (hex bs) ≡ Some bs
+HexReadsBack = (bs : List ℕ) → AllByRecursion (λ b. b < 256) bs → unhex (hex bs) ≡ Some bs

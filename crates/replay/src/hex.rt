@@ -80,7 +80,7 @@ pub fn unhex(heap: Global, text: &[u8]) -> Result<Option<Vec<u8>>, AllocError>
     if text.is_empty() {
         return Ok(None);
     }
-    if text == b"-" {
+    if text == b"-".as_slice() {
         return Ok(Some(Vec::new(heap)));
     }
     read_digits(heap, text)

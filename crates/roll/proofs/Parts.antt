@@ -2,7 +2,7 @@
 use Rattle.std.proofs.Common.{◌≡◌, ℕ, zero, suc, ◌+◌, ◌/◌, ◌%◌, ◌<◌, ◌≤◌, Bool, true, false, cond, List, [], ◌∷◌, ◌++◌, length, get_or, take, drop, Some, None, Ok, Err, Option, Result, sym, refl, ap, ◌∙◌, subst, arith}
 use Rattle.std.proofs.lemmas.List.{length-drop, get_or-drop, drop-drop}
 use Rattle.std.proofs.lemmas.Bool.{le-leb, leb-true, and_parts, and_from, cond-true}
-use Rattle.std.specs.List.{AllByRecursion as All}
+use Rattle.std.specs.List.{AllByRecursion}
 use Rattle.address.specs.Text.{Text}
 use Rattle.roll.specs.declared.fault.RollFault.{RollFault}
 use Rattle.roll.specs.declared.limits.Limits.{Limits}
@@ -130,7 +130,7 @@ packs_text l bs a e t h s =
 pub record ReadTexts (l : Limits) (n : ℕ) (bs : List ℕ) (a e : ℕ) : Type 0 where
   pub stands : Stands bs a (pack_texts (texts_from n (drop a bs))) e
   pub count : length (texts_from n (drop a bs)) ≡ n
-  pub short : All (λ (t : Text). length t ≤ l.longest) (texts_from n (drop a bs))
+  pub short : AllByRecursion (λ (t : Text). length t ≤ l.longest) (texts_from n (drop a bs))
 
 pub reads_texts : (l : Limits) (n : ℕ) (bs : List ℕ) (a e : ℕ) → Bytes bs → a ≤ length bs → texts_end l n bs a ≡ Ok e → ReadTexts l n bs a e
 unfolding texts_end texts_from pack_texts
@@ -148,7 +148,7 @@ reads_texts l (suc n) bs a e b w h =
       short = rw r (t.short, ih.short);
     }
 
-pub packs_texts : (l : Limits) (ts : List Text) (bs : List ℕ) (a e : ℕ) → All (λ (t : Text). length t ≤ l.longest) ts → Stands bs a (pack_texts ts) e → (texts_end l (length ts) bs a ≡ Ok e) × (texts_from (length ts) (drop a bs) ≡ ts)
+pub packs_texts : (l : Limits) (ts : List Text) (bs : List ℕ) (a e : ℕ) → AllByRecursion (λ (t : Text). length t ≤ l.longest) ts → Stands bs a (pack_texts ts) e → (texts_end l (length ts) bs a ≡ Ok e) × (texts_from (length ts) (drop a bs) ≡ ts)
 unfolding texts_end texts_from pack_texts
 packs_texts l [] bs a e h s = let n = s.long in let z : a ≡ e = omega arith in (ap Ok z, refl)
 packs_texts l (t ∷ ts) bs a e h s =

@@ -1,6 +1,6 @@
 -- The law of the format, both ways: bytes are accepted exactly when texts within the limits pack to them, and the reading gives those texts.
 use Rattle.std.specs.Prelude.{◌≡◌, ℕ, ◌+◌, ◌<◌, ◌≤◌, List, ◌++◌, length, take, drop, Ok, slice_index}
-use Rattle.std.specs.List.{AllByRecursion as All}
+use Rattle.std.specs.List.{AllByRecursion}
 use Rattle.address.specs.Text.{Text}
 use Rattle.roll.specs.declared.limits.Limits.{Limits}
 use Rattle.roll.specs.Packing.{pack_roll}
@@ -22,7 +22,7 @@ pub record Stands (bs : List ℕ) (a : ℕ) (p : List ℕ) (e : ℕ) : Type 0 wh
 pub record Within (l : Limits) (ts : List Text) : Type 0 where
   pub least : l.least ≤ length ts
   pub most : length ts ≤ l.most
-  pub longest : All (λ t. length t ≤ l.longest) ts
+  pub longest : AllByRecursion (λ t. length t ≤ l.longest) ts
 
 abbrev pub ReadsRolls : Type 0
 ReadsRolls = (l : Limits) (bs : List ℕ) (a e : ℕ) → Bytes bs → roll_end l bs a ≡ Ok e → Stands bs a (pack_roll (texts_at bs a)) e × Within l (texts_at bs a)

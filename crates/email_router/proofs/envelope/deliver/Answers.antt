@@ -5,15 +5,15 @@ use Rattle.email_router.proofs.envelope.deliver.Goals as goal
 
 pub returns-then-tray-len : goal.returns-then-tray-len
 returns-then-tray-len c =
-    let n = c.action-len-len.ensures ∙ ap action_size c.requires.action ∙ action_length (sent_to c.args.recipients.now c.args.mail.now) c.args.rank in
+    let n = c.action_len-len.ensures ∙ ap action_size c.requires.action ∙ action_length (sent_to c.args.recipients.now c.args.mail.now) c.args.rank in
     tray_refused _ _ _ _ n c.if-tray-len.true
 
-pub write-action-requires : goal.write-action-requires
-write-action-requires c =
-    let n = c.action-len-len.ensures ∙ ap action_size c.requires.action ∙ action_length (sent_to c.args.recipients.now c.args.mail.now) c.args.rank in
+pub write_action-requires : goal.write_action-requires
+write_action-requires c =
+    let n = c.action_len-len.ensures ∙ ap action_size c.requires.action ∙ action_length (sent_to c.args.recipients.now c.args.mail.now) c.args.rank in
     record { action = c.requires.action; slots = c.requires.slots; room = omega arith }
 
 pub returns : goal.returns
 returns c =
-    let n = c.action-len-len.ensures ∙ ap action_size c.requires.action ∙ action_length (sent_to c.args.recipients.now c.args.mail.now) c.args.rank in
-    tray_answered _ _ _ c.write-action.new.slots _ _ _ n (omega arith) (omega arith) c.clear.ensures c.write-action.ensures
+    let n = c.action_len-len.ensures ∙ ap action_size c.requires.action ∙ action_length (sent_to c.args.recipients.now c.args.mail.now) c.args.rank in
+    tray_answered _ _ _ c.write_action.new.slots _ _ _ n (omega arith) (omega arith) c.clear.ensures c.write_action.ensures

@@ -16,15 +16,15 @@ bounds-tray-0-in-Send c =
     let n = ap length s.0 ∙ send_length (recipients_of c.args.recipients.now c.args.mail.now) c.args.rank in
     omega arith
 
-pub write-part-next-requires : goal.write-part-next-requires
-write-part-next-requires c =
+pub write_part-next-requires : goal.write_part-next-requires
+write_part-next-requires c =
     let s = send_sizes c.args.recipients.now c.args.mail.now c.args.rank _ _ _ (sym c.in-Send.is ∙ c.requires.action) in
     let n = ap length s.0 ∙ send_length (recipients_of c.args.recipients.now c.args.mail.now) c.args.rank in
     let l = length-set c.args.tray.now 0 c.send_map.result in
     record { slots = omega arith; room = omega arith }
 
-pub write-part-requires : goal.write-part-requires
-write-part-requires c =
+pub write_part-requires : goal.write_part-requires
+write_part-requires c =
     let s = send_sizes c.args.recipients.now c.args.mail.now c.args.rank _ _ _ (sym c.in-Send.is ∙ c.requires.action) in
     let n = ap length s.0 ∙ send_length (recipients_of c.args.recipients.now c.args.mail.now) c.args.rank in
     let l = length-set c.args.tray.now 0 c.send_map.result in
@@ -38,5 +38,5 @@ returns-in-Mute c =
 pub returns-in-Send : goal.returns-in-Send
 returns-in-Send c =
     let s = send_sizes c.args.recipients.now c.args.mail.now c.args.rank _ _ _ (sym c.in-Send.is ∙ c.requires.action) in
-    send_written (recipients_of c.args.recipients.now c.args.mail.now) c.args.rank c.args.tray.now c.write-part-next.new.tray _ c.send_map.result _ _ _ s.1 s.2 c.send_map.ensures c.write-part-next.ensures.tray c.write-part-next.ensures.end c.write-part.ensures.tray
+    send_written (recipients_of c.args.recipients.now c.args.mail.now) c.args.rank c.args.tray.now c.write_part-next.new.tray _ c.send_map.result _ _ _ s.1 s.2 c.send_map.ensures c.write_part-next.ensures.tray c.write_part-next.ensures.end c.write_part.ensures.tray
     ∙ ap (written c.args.tray.now 0) (sym s.0)

@@ -7,24 +7,24 @@ returns-then-count-eq0 c =
     let (e, t) = roll_left_out c.args.roll.now c.args.mail.now c.args.added.now c.args.slots.now c.in-Some.count c.in-Some.ensures.answer c.args.tray.now c.args.at c.requires.room c.if-count-eq0.true in
     record { end = e; tray = t }
 
-pub returns-in-default-write-word : goal.returns-in-default-write-word
-returns-in-default-write-word c =
-    absurd (roll_accepted c.args.roll.now c.args.mail.now c.args.added.now c.args.slots.now c.in-Some.count c.in-Some.ensures.answer c.args.tray.now c.args.at c.requires.room (omega arith) c.in-default-write-word.ensures.end)
+pub returns-in_default-write_word : goal.returns-in_default-write_word
+returns-in_default-write_word c =
+    absurd (roll_accepted c.args.roll.now c.args.mail.now c.args.added.now c.args.slots.now c.in-Some.count c.in-Some.ensures.answer c.args.tray.now c.args.at c.requires.room (omega arith) c.in_default-write_word.ensures.end)
 
-pub slice-bounds-write-texts-end : goal.slice-bounds-write-texts-end
-slice-bounds-write-texts-end c =
+pub slice_bounds-write_texts-end : goal.slice_bounds-write_texts-end
+slice_bounds-write_texts-end c =
     let few = few_counted c.args.roll.now c.args.mail.now c.args.added.now c.args.slots.now c.in-Some.count c.in-Some.ensures.answer in
     let within : c.in-Some.count ≤ length c.keep_first.new.slots = omega arith in
     omega arith
 
-pub write-texts-requires : goal.write-texts-requires
-write-texts-requires c =
-    let room = roll_room c.args.roll.now c.args.mail.now c.args.added.now c.args.slots.now c.in-Some.count c.in-Some.ensures.answer c.args.tray.now c.args.at c.requires.room (omega arith) c.in-Some-write-word.first c.in-Some-write-word.ensures.end in
+pub write_texts-requires : goal.write_texts-requires
+write_texts-requires c =
+    let room = roll_room c.args.roll.now c.args.mail.now c.args.added.now c.args.slots.now c.in-Some.count c.in-Some.ensures.answer c.args.tray.now c.args.at c.requires.room (omega arith) c.in-Some-write_word.first c.in-Some-write_word.ensures.end in
     let held = places_held c.args.roll.now c.args.mail.now c.args.added.now c.args.slots.now c.in-Some.count c.in-Some.ensures.answer c.keep_first.new.slots c.keep_first.ensures.state in
     rw held record { room = omega arith }
 
 pub returns : goal.returns
 returns c =
     let held = places_held c.args.roll.now c.args.mail.now c.args.added.now c.args.slots.now c.in-Some.count c.in-Some.ensures.answer c.keep_first.new.slots c.keep_first.ensures.state in
-    let (e, t) = roll_wrote c.args.roll.now c.args.mail.now c.args.added.now c.args.slots.now c.in-Some.count c.in-Some.ensures.answer c.args.tray.now c.args.at c.requires.room (omega arith) c.in-Some-write-word.first c.in-Some-write-word.ensures.end _ _ _ c.write-word.ensures.tray (rw held at c.write-texts.ensures.end) (rw held at c.write-texts.ensures.tray) in
+    let (e, t) = roll_wrote c.args.roll.now c.args.mail.now c.args.added.now c.args.slots.now c.in-Some.count c.in-Some.ensures.answer c.args.tray.now c.args.at c.requires.room (omega arith) c.in-Some-write_word.first c.in-Some-write_word.ensures.end _ _ _ c.write_word.ensures.tray (rw held at c.write_texts.ensures.end) (rw held at c.write_texts.ensures.tray) in
     record { end = e; tray = t }

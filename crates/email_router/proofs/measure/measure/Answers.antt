@@ -7,7 +7,7 @@ use Rattle.email_router.specs.Actions.{size_of}
 use Rattle.email_router.proofs.Rows.{measured_none, measured_some, measured_skip, size_measured}
 use Rattle.email_router.proofs.Shorts.{mailed_short}
 use Rattle.email_router.proofs.measure.measure.Goals as goal
-use Rattle.email_router.proofs.measure.measure.Goals.{in-Some, in-default}
+use Rattle.email_router.proofs.measure.measure.Goals.{in-Some, in_default}
 
 pub loop-i-init : goal.loop-i-init
 loop-i-init c =
@@ -24,8 +24,8 @@ loop-i-preserved c =
     elim c.match-standing.branch [
       | in-Some w ↦
           rw (w.texts-is, w.bytes-is) (measured_some text c.loop-i.invariant (kept_below m liked _) (standing_at m liked c.loop-i.i) more w.in-Some.place _ w.in-Some.ensures (ap length (w.trim.ensures ∙ ap trimmed w.text.ensures)) (mailed_short c.args.roll.now c.args.mail.now c.args.added.now w.in-Some.place))
-      | in-default w ↦
-          rw (w.texts-is, w.bytes-is) (measured_skip text c.loop-i.invariant (kept_below m liked _) (standing_at m liked c.loop-i.i) more w.in-default.ensures)
+      | in_default w ↦
+          rw (w.texts-is, w.bytes-is) (measured_skip text c.loop-i.invariant (kept_below m liked _) (standing_at m liked c.loop-i.i) more w.in_default.ensures)
     ]
 
 pub returns : goal.returns

@@ -8,7 +8,7 @@ use Rattle.recipients.proofs.People.{length-people, length-incoming}
 use Rattle.recipients.proofs.individuals.count_individuals.Goals as goal
 
 pub invariant_of-roll : goal.invariant_of-roll
-invariant_of-roll c = (omega (arith, c.requires, c.mark_counted.auto.marks, length-incoming c.args.mail.now, length-people c.args.mail.now, c.args.mail.now.few), tt)
+invariant_of-roll c = record { few = omega (arith, c.requires, c.mark_counted.auto.marks, length-incoming c.args.mail.now, length-people c.args.mail.now, c.args.mail.now.few) }
 
 pub returns : goal.returns
 returns c =
