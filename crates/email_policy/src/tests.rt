@@ -37,8 +37,8 @@ fn fields(rt: HostRuntime) {
     );
     assert!(rt; positive_review(PLACED, 1) == Some(PositiveReviewPolicy::Author));
     assert_eq!(rt; mute_all(PLACED, 1), Some(true));
-    assert_eq!(rt; cc(PLACED, 1, 1), Some(b"bc"));
-    assert_eq!(rt; ignored_email(PLACED, 1, 0), Some(b"\n"));
+    assert_eq!(rt; cc(PLACED, 1, 1), Some(b"bc".as_slice()));
+    assert_eq!(rt; ignored_email(PLACED, 1, 0), Some(b"\n".as_slice()));
     assert_eq!(rt; cc(PLACED, 99, 0), None);
     assert_eq!(rt; own_address(PLACED, 1, b"<BC>"), Some(10));
     let bad = RollFault::InText(TextFault { place: 18 });

@@ -35,7 +35,7 @@ fn addresses(rt: HostRuntime) {
     for (n, text) in ADDRESSES.iter().enumerate() {
         assert_eq!(rt; address(&to, &cc, n), *text);
     }
-    assert_eq!(rt; roll_text(b"\xff\0\x02\0\x01a\0\x02bc", 1, 1), Some(b"bc"));
+    assert_eq!(rt; roll_text(b"\xff\0\x02\0\x01a\0\x02bc", 1, 1), Some(b"bc".as_slice()));
 }
 
 #[test]
@@ -48,5 +48,5 @@ fn writes(rt: HostRuntime) {
     );
     assert_eq!(rt; tray, [7; 10]);
     assert_eq!(rt; write_roll(&texts, &mut tray), Ok(9));
-    assert_eq!(rt; &tray[..], b"\0\x02\0\x01a\0\x02bc\x07");
+    assert_eq!(rt; tray.as_slice(), b"\0\x02\0\x01a\0\x02bc\x07".as_slice());
 }

@@ -8,12 +8,12 @@ use Rattle.replay.proofs.answer.push_address.Goals as goal
 
 pub returns : goal.returns
 returns c =
-    pushed _ _ _ _ _ _ _ _ (codes "address ") (hex c.address-part-part.result.now) (codes " ") (hex (small c.address-part-part.result.now)) (codes " ") _ (codes "\n")
-    c.in-ok-extend-from-slice.ensures.items
-    c.in-ok-push-hex.ensures
-    c.in-ok-extend-from-slice-2.ensures.items
-    c.in-ok-push-small.ensures
-    c.in-ok-extend-from-slice-3.ensures.items
-    c.in-ok-push-domain.ensures
-    c.in-ok-extend-from-slice-4.ensures.items
-    ∙ ap (λ p. vec_items c.args.out.now ++ line_of p) c.address-part-part.ensures
+    pushed _ _ _ _ _ _ _ _ (codes "address ") (hex c.address_part-part.result.now) (codes " ") (hex (small c.address_part-part.result.now)) (codes " ") _ (codes "\n")
+    c.in_ok-extend_from_slice.ensures.items
+    c.in_ok-push_hex.ensures
+    c.in_ok-extend_from_slice-2.ensures.items
+    c.in_ok-push_small.ensures
+    c.in_ok-extend_from_slice-3.ensures.items
+    c.in_ok-push_domain.ensures
+    c.in_ok-extend_from_slice-4.ensures.items
+    ∙ ap (λ p. vec_items c.args.out.now ++ line_of p) c.address_part-part.ensures

@@ -4,4 +4,4 @@ use Rattle.replay.proofs.AddressLines.{pushed_two}
 use Rattle.replay.proofs.answer.push_bytes.Goals as goal
 
 pub returns : goal.returns
-returns c = pushed_two _ _ _ (codes "answer ") (hex c.args.bytes.now) c.in-ok-extend-from-slice.ensures.items c.in-ok-push-hex.ensures
+returns c = pushed_two _ _ _ (codes "answer ") (hex c.args.bytes.now) c.in_ok-extend_from_slice.ensures.items c.in_ok-push_hex.ensures

@@ -7,5 +7,5 @@ use Rattle.replay.proofs.answer.push_refused.Goals as goal
 pub returns : goal.returns
 returns c =
     pushed_two _ _ _ (reported_words (open_report c.args.fault)) (codes "\n")
-    (c.in-ok-push-fault.ensures ∙ ap (λ r. vec_items c.args.out.now ++ reported_words r) c.report.ensures)
-    c.in-ok-extend-from-slice.ensures.items
+    (c.in_ok-push_fault.ensures ∙ ap (λ r. vec_items c.args.out.now ++ reported_words r) c.report.ensures)
+    c.in_ok-extend_from_slice.ensures.items

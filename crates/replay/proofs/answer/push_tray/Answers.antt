@@ -6,6 +6,6 @@ use Rattle.replay.proofs.answer.push_tray.Goals as goal
 pub returns : goal.returns
 returns c =
     pushed_three _ _ _ _ (codes " tray ") (hex c.args.tray.now) (codes "\n")
-    c.in-ok-extend-from-slice.ensures.items
-    c.in-ok-push-hex.ensures
-    c.in-ok-extend-from-slice-2.ensures.items
+    c.in_ok-extend_from_slice.ensures.items
+    c.in_ok-push_hex.ensures
+    c.in_ok-extend_from_slice-2.ensures.items

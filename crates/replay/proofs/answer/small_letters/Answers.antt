@@ -6,8 +6,8 @@ use Rattle.replay.proofs.answer.small_letters.Goals as goal
 
 pub loop-b-preserved : goal.loop-b-preserved
 loop-b-preserved c =
-    c.in-ok-push.ensures.items
-    ∙ (λ k. c.loop-b.invariant k ++ (c.to-ascii-lowercase.ensures.value k ∷ []))
+    c.in_ok-push.ensures.items
+    ∙ (λ k. c.loop-b.invariant k ++ (c.to_ascii_lowercase.ensures.value k ∷ []))
     ∙ sym (map_more to_ascii_lowercase c.args.text.now c.loop-b.b-index 0 c.loop-b-test.true)
 
 pub returns : goal.returns

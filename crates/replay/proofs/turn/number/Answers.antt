@@ -3,13 +3,13 @@ use Rattle.replay.proofs.Trays.{number_some, number_more, number_bad, number_lar
 use Rattle.replay.proofs.turn.number.Goals as goal
 
 pub loop-c-init : goal.loop-c-init
-loop-c-init c = number_some c.args.text.now c.if-is-empty.ensures
+loop-c-init c = number_some c.args.text.now c.if-is_empty.ensures
 
 pub loop-c-preserved : goal.loop-c-preserved
 loop-c-preserved c = c.loop-c.invariant ∙ number_more c.args.text.now c.loop-c.c-index c.loop-c.n c.loop-c-test.true c.in-Some.d c.in-Some.ensures.value c.if-n-ge100000000.false
 
-pub returns-in-default : goal.returns-in-default
-returns-in-default c = sym (c.loop-c.invariant ∙ number_bad c.args.text.now c.loop-c.c-index c.loop-c.n c.loop-c-test.true c.in-default.ensures.value)
+pub returns-in_default : goal.returns-in_default
+returns-in_default c = sym (c.loop-c.invariant ∙ number_bad c.args.text.now c.loop-c.c-index c.loop-c.n c.loop-c-test.true c.in_default.ensures.value)
 
 pub returns-then-n-ge100000000 : goal.returns-then-n-ge100000000
 returns-then-n-ge100000000 c = sym (c.loop-c.invariant ∙ number_large c.args.text.now c.loop-c.c-index c.loop-c.n c.loop-c-test.true c.in-Some.d c.in-Some.ensures.value c.if-n-ge100000000.true)
