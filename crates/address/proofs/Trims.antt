@@ -1,11 +1,11 @@
 -- Trimming takes the blanks at both ends and nothing else.
-use Rattle.std.proofs.Common.{◌≡◌, ℕ, zero, suc, ◌+◌, ◌-◌, ◌≤◌, Bool, true, false, cond, List, [], ◌∷◌, ◌++◌, reverse, length, take, drop, sym, refl, ap, ◌∙◌, subst, one-add, arith, length-append, length-take}
+use Rattle.std.proofs.Common.{◌≡◌, ℕ, ◌+◌, ◌-◌, true, false, cond, [], ◌∷◌, ◌++◌, reverse, length, take, drop, sym, refl, ap, ◌∙◌, subst, one-add, arith, length-append, length-take}
 use mathlib.Core.List.{reverse-append, reverse-reverse}
-use Rattle.std.specs.List.{prefix_len, suffix_len, AllByRecursion}
+use Rattle.std.specs.List.{prefix_len, AllByRecursion}
 use Rattle.std.proofs.ByRecursion.{All-append}
 use Rattle.std.proofs.lemmas.List.{take-append-drop, take-append-le, take_all, length-reverse}
 use Rattle.std.proofs.lemmas.List.Sums.{prefix_len-le-length}
-use Rattle.std.proofs.lemmas.Bool.{cond_both, cond-false, both_ways}
+use Rattle.std.proofs.lemmas.Bool.{cond_both, cond-false}
 use Rattle.address.specs.Text.{Text, blank, unindented, unpadded, trimmed}
 use Rattle.address.specs.Laws.{Firm, Trimming}
 

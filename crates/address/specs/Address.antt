@@ -1,5 +1,5 @@
 -- What a mail address is: RFC 5322, 3.4, with comments as ordinary text. 60 is `<`, 62 is `>`, 64 is `@`.
-use Rattle.std.specs.Prelude.{ℕ, ◌+◌, Bool, List, take, drop, Some, None, Option, nat_eq}
+use Rattle.std.specs.Prelude.{ℕ, ◌+◌, Bool, take, drop, Some, None, Option, nat_eq}
 use Rattle.std.specs.Option.{option_map, unwrap_or}
 use Rattle.std.specs.Str.{bytes_eq}
 use Rattle.address.specs.Text.{Text, trimmed, small, first_place}

@@ -1,5 +1,5 @@
 -- What holds of texts and addresses, in words that do without the scanner.
-use Rattle.std.specs.Prelude.{◌≡◌, ℕ, suc, true, false, ◌↔◌, List, [], ◌∷◌, ◌++◌, map, length, replicate, ◌≢◌}
+use Rattle.std.specs.Prelude.{◌≡◌, ℕ, suc, true, false, ◌↔◌, [], ◌∷◌, ◌++◌, length, replicate, ◌≢◌}
 use Rattle.std.specs.Option.{option_map}
 use Rattle.std.specs.List.{AllByRecursion}
 use Rattle.address.specs.Text.{Text, blank, trimmed, small, holds}

@@ -1,5 +1,5 @@
 -- Quoted parts of a text, and what stands outside them. 34 is the quote, 92 the backslash.
-use Rattle.std.specs.Prelude.{ℕ, suc, Bool, true, false, cond, not, ◌&&◌, List, [], ◌∷◌, Option, ◌==◌, nat_eq}
+use Rattle.std.specs.Prelude.{ℕ, suc, Bool, true, false, cond, not, ◌&&◌, [], ◌∷◌, Option, ◌==◌, nat_eq}
 use Rattle.address.specs.Text.{Text, first_place}
 use Rattle.address.specs.declared.scanner.Scanner.{Scanner}
 use Rattle.address.specs.declared.scanner.Scanner.TheVariants.{Outside, Quoted, Escaped}

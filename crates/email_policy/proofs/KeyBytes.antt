@@ -1,5 +1,5 @@
 -- The questions on a key's bytes.
-use Rattle.std.proofs.Common.{◌≡◌, ℕ, ◌+◌, ◌-◌, ◌<◌, ◌≤◌, min, Bool, true, false, cond, not, ◌&&◌, eqb, ltb, List, [], ◌∷◌, length, get_or, take, drop, is_some, Some, None, Ok, Err, Option, Result, sym, refl, ap, ◌∙◌, ⊎_elim, arith}
+use Rattle.std.proofs.Common.{◌≡◌, ℕ, ◌+◌, ◌<◌, ◌≤◌, min, Bool, true, false, cond, not, ◌&&◌, eqb, ltb, [], ◌∷◌, length, get_or, take, drop, is_some, Some, None, Ok, Err, Option, Result, sym, refl, ap, ◌∙◌, ⊎_elim, arith}
 use Rattle.std.proofs.lemmas.List.{take_all, take-take, length-take}
 use Rattle.std.proofs.lemmas.Bool.{cases_lt, lt-ltb, le-ltb}
 use Rattle.address.specs.Text.{Text, blank, trimmed, small, empty, first_place, text_fault}
@@ -7,7 +7,7 @@ use Rattle.address.specs.Address.{address_part, bare, sides}
 use Rattle.address.specs.declared.text.TextFault.{TextFault}
 use Rattle.address.proofs.Places.{from, first_place_more, first_place-found, first_place_none}
 use Rattle.email_policy.specs.declared.fault.KeyFault.{KeyFault}
-use Rattle.email_policy.specs.declared.fault.KeyFault.TheVariants.{TooLong, InText, NoAt, Sides, NoBare}
+use Rattle.email_policy.specs.declared.fault.KeyFault.TheVariants.{TooLong, InText, Sides, NoBare}
 use Rattle.email_policy.specs.Keys.{key_length, key_text, good_sides, key_form, or_else, key_fault}
 
 -- whether some byte passes

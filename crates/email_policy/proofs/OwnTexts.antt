@@ -1,12 +1,12 @@
 -- The questions on a record's texts, asked one text after another.
-use Rattle.std.proofs.Common.{◌≡◌, ℕ, ◌+◌, ◌-◌, ◌<◌, ◌≤◌, Bool, true, false, cond, List, [], ◌∷◌, length, take, drop, Some, None, Ok, Err, Option, sym, refl, ap, ◌∙◌, arith}
+use Rattle.std.proofs.Common.{◌≡◌, ℕ, ◌+◌, ◌-◌, ◌<◌, ◌≤◌, true, false, cond, List, [], length, take, drop, Some, None, Ok, Option, sym, refl, ap, ◌∙◌, arith}
 use Rattle.std.specs.Str.{bytes_eq}
 use Rattle.std.proofs.lemmas.List.{take_rest, drop-drop, get_or_past}
 use Rattle.address.specs.Text.{Text}
 use Rattle.address.specs.Address.{bare}
 use Rattle.roll.specs.Ends.{read_word}
 use Rattle.roll.specs.Reading.{read_text, texts_from, texts_at, texts_fault}
-use Rattle.roll.proofs.Readings.{word_some, texts_counted, texts_uncounted, text_read, Walked, walk_room, left_some, left_none, left_all, texts_fault_none}
+use Rattle.roll.proofs.Readings.{word_some, texts_counted, text_read, Walked, walk_room, left_some, left_none, left_all, texts_fault_none}
 use Rattle.email_policy.specs.Reading.{read_policy}
 use Rattle.email_policy.specs.Questions.{then_texts, own_place}
 

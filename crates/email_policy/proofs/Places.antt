@@ -1,7 +1,7 @@
 -- What passes a question at one place passes it at every place.
 use Rattle.std.proofs.Common.{◌≡◌, ℕ, ◌+◌, Bool, true, false, cond, not, ◌&&◌, ltb, List, [], ◌∷◌, length, take, is_some, Some, None, Ok, Err, Option, Result, refl, ◌∙◌, arith}
 use Rattle.std.specs.Str.{bytes_eq}
-use Rattle.std.proofs.lemmas.Bool.{cond-true, cond-false}
+use Rattle.std.proofs.lemmas.Bool.{cond-false}
 use Rattle.address.specs.Text.{Text, blank, trimmed, empty, first_place, text_fault}
 use Rattle.address.specs.Address.{bare, sides}
 use Rattle.address.specs.declared.text.TextFault.{TextFault}

@@ -9,7 +9,7 @@ use Rattle.email_policy.specs.declared.policy.PositiveReviewPolicy.TheVariants.{
 use Rattle.email_policy.specs.Policy.{ListPolicy}
 use Rattle.email_policy.specs.Packing.{pack_policy}
 use Rattle.email_policy.specs.Ends.{record_end, whole_record}
-use Rattle.email_policy.specs.Reading.{read_policy, cc_place, ignored_place}
+use Rattle.email_policy.specs.Reading.{read_policy}
 use Rattle.email_policy.specs.Questions.{bytes_fault, own_place}
 use Rattle.email_policy.specs.Keys.{key_fault, rises}
 

@@ -1,5 +1,5 @@
 -- What a key must be, and the order of keys.
-use Rattle.std.specs.Prelude.{◌≡◌, ℕ, ◌+◌, Bool, true, false, cond, not, ◌&&◌, ◌||◌, ◌⊎◌, List, [], ◌∷◌, length, take, is_some, Some, None, Ok, Err, Option, Result, ◌==◌, nat_eq, nat_lt}
+use Rattle.std.specs.Prelude.{◌≡◌, ℕ, ◌+◌, Bool, true, false, cond, not, ◌&&◌, ◌||◌, ◌⊎◌, [], ◌∷◌, length, take, is_some, Some, None, Ok, Err, Option, Result, ◌==◌, nat_eq, nat_lt}
 use Rattle.address.specs.Text.{Text, blank, trimmed, empty, first_place, text_fault}
 use Rattle.address.specs.Address.{bare, same_bare, sides}
 use Rattle.address.specs.declared.text.TextFault.{TextFault}

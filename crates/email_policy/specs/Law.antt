@@ -1,5 +1,5 @@
 -- The law of packed records, both ways, at any place.
-use Rattle.std.specs.Prelude.{◌≡◌, ℕ, ◌+◌, ◌≤◌, Bool, true, List, length, is_some, Ok}
+use Rattle.std.specs.Prelude.{◌≡◌, ℕ, ◌≤◌, Bool, true, List, length, is_some, Ok}
 use Rattle.roll.specs.Laws.{Bytes, Stands}
 use Rattle.email_policy.specs.Policy.{ListPolicy, DefaultPolicy}
 use Rattle.email_policy.specs.Packing.{pack_policy, as_list}

@@ -4,7 +4,7 @@ use Rattle.std.specs.List.{flat_map}
 use Rattle.address.specs.Text.{Text}
 use Rattle.address.specs.Address.{bare}
 use Rattle.roll.specs.Packing.{word, pack_text}
-use Rattle.email_policy.specs.Policy.{ListPolicy, DefaultPolicy, Entry, Policy}
+use Rattle.email_policy.specs.Policy.{ListPolicy, Entry, Policy}
 use Rattle.email_policy.specs.Packing.{pack_policy, as_list}
 use Rattle.email_policy.specs.Keys.{key_fault, rises}
 use Rattle.email_policy.specs.Questions.{bytes_fault, own_place}

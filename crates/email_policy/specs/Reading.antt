@@ -1,5 +1,5 @@
 -- The policy that is read at a place, from any bytes.
-use Rattle.std.specs.Prelude.{ℕ, ◌+◌, Bool, true, false, cond, List, [], Some, None, Ok, Err, Option, Result, slice_index}
+use Rattle.std.specs.Prelude.{ℕ, ◌+◌, Bool, true, false, List, [], Some, None, Ok, Err, Option, slice_index}
 use Rattle.std.specs.Option.{unwrap_or}
 use Rattle.address.specs.Text.{Text}
 use Rattle.roll.specs.Reading.{texts_at}

@@ -1,7 +1,5 @@
 -- What each fault says, case by case: its number, its layer, the part (which argument) and the place.
 use Rattle.std.specs.Prelude.{ℕ}
-use Rattle.address.specs.declared.text.TextFault.{TextFault}
-use Rattle.roll.specs.declared.fault.RollFault.{RollFault}
 use Rattle.roll.specs.declared.fault.RollFault.TheVariants.{Count, Length, LeftOver as RollLeftOver, InText}
 use Rattle.email_policy.specs.declared.fault.Layer.{Layer}
 use Rattle.email_policy.specs.declared.fault.Layer.TheVariants.{Text, Roll, Record, Book}

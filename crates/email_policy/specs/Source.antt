@@ -1,9 +1,9 @@
 -- What a policy source answers, of the policy that it means.
-use Rattle.std.specs.Prelude.{ℕ, Bool, List, Some, None, Option}
+use Rattle.std.specs.Prelude.{ℕ, List, Some, None, Option}
 use Rattle.std.specs.List.{slice_get}
 use Rattle.std.specs.Option.{option_map}
 use Rattle.address.specs.Text.{Text}
-use Rattle.email_policy.specs.Policy.{ListPolicy, Entry, Policy}
+use Rattle.email_policy.specs.Policy.{ListPolicy, Policy}
 
 abbrev pub and_then : {X Y : Type 0} → Option X → (X → Option Y) → Option Y
 and_then None next = None

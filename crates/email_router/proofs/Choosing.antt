@@ -1,25 +1,21 @@
 -- From the tables of a grant to whom it mails.
-use Rattle.std.proofs.Common.{◌≡◌, ℕ, zero, suc, ◌+◌, ◌-◌, ◌<◌, ◌≤◌, Bool, true, false, cond, ◌&&◌, ◌||◌, List, [], ◌∷◌, ◌++◌, map, length, get_or, take, drop, Some, None, Option, sym, refl, ap, ◌∙◌, subst, arith}
-use Rattle.std.proofs.lemmas.List.{take_all, length-map, length-take-le, take-take}
+use Rattle.std.proofs.Common.{◌≡◌, ℕ, ◌+◌, ◌-◌, ◌<◌, ◌≤◌, Bool, List, [], ◌++◌, map, length, get_or, take, sym, refl, ap, ◌∙◌, subst, arith}
+use Rattle.std.proofs.lemmas.List.{take_all, length-map, length-take-le}
 use Rattle.address.specs.Text.{Text}
-use Rattle.audience.specs.Mail.{Mail}
 use Rattle.audience.specs.Rules as audience
 use Rattle.audience.specs.Due.{to_texts, cc_texts}
-use Rattle.audience.specs.Answers.{everyone, somebody, granted, sent}
+use Rattle.audience.specs.Answers.{somebody, sent}
 use Rattle.mail.specs.declared.letter.Mail.{Mail as Letter}
 use Rattle.mail.specs.declared.mailbox.Mailbox.{Mailbox}
-use Rattle.mail.specs.Letters.{letter, people, texts}
-use Rattle.mail.specs.Marks.{marked, over}
+use Rattle.mail.specs.Letters.{letter, texts}
 use Rattle.mail.specs.Parts.{Short, text_in}
 use Rattle.mail.specs.Rolls.{mailed}
 use Rattle.mail.specs.Tables.{Holds, fitting}
-use Rattle.mail.proofs.Overs.{over_all}
-use Rattle.recipients.specs.Choices.{listed_by, to_marks, cc_marks}
+use Rattle.recipients.specs.Choices.{listed_by, to_marks}
 use Rattle.recipients.proofs.Mailings.{to_mailed, cc_mailed}
-use Rattle.recipients.proofs.Marking.{length-to_marks, length-cc_marks}
 use Rattle.recipients.proofs.People.{length-people, length_to, length_cc}
-use Rattle.email_router.specs.declared.recipients.Recipients.{Recipients}
-use Rattle.email_router.specs.Actions.{recipients_of, sent_to}
+use Rattle.email_router.specs.declared.chosen.Recipients.{Recipients}
+use Rattle.email_router.specs.Actions.{sent_to}
 use Rattle.email_router.specs.Chosen.{Chosen, Tabled, individuals}
 
 -- ---- tables that are filled

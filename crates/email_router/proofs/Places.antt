@@ -9,7 +9,7 @@ use Rattle.keep_first.proofs.KeptPlaces.{length-kept}
 use Rattle.keep_first.proofs.Slots.{answered-some, slots_front}
 use Rattle.mail.specs.declared.list.Mailboxes.{Mailboxes}
 use Rattle.mail.specs.declared.letter.Mail.{Mail}
-use Rattle.mail.specs.declared.roll.Candidates.{Candidates}
+use Rattle.mail.specs.declared.candidate_roll.Candidates.{Candidates}
 use Rattle.mail.specs.Rolls.{text_at, roll_texts, classes_of, preferred_of, kept_places, mailed}
 use Rattle.email_router.proofs.Rows.{rows, part_left_out, count_accepted, texts_room, part_wrote}
 

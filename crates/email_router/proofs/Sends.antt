@@ -1,5 +1,5 @@
 -- An answer's bytes and its sizes.
-use Rattle.std.proofs.Common.{◌≡◌, ℕ, ◌+◌, ◌<◌, ◌≤◌, cond, eqb, ltb, List, [], ◌∷◌, length, set, replicate, Some, None, Ok, Err, Option, sym, refl, ap, ◌∙◌, arith}
+use Rattle.std.proofs.Common.{◌≡◌, ℕ, ◌+◌, ◌<◌, ◌≤◌, eqb, ltb, List, [], ◌∷◌, length, set, replicate, Some, None, Ok, Err, Option, sym, refl, ap, ◌∙◌, arith}
 use Rattle.std.proofs.lemmas.List.{length-append}
 use Rattle.std.proofs.lemmas.Bool.{cond-true, cond-false, lt-ltb, le-ltb, ne_eqb}
 use Rattle.address.specs.Text.{Text}
@@ -11,7 +11,7 @@ use Rattle.email_policy.specs.declared.policy.PositiveReviewPolicy.{PositiveRevi
 use Rattle.audience.specs.Answers as audience
 use Rattle.audience.specs.Answers.{everyone, somebody}
 use Rattle.mail.specs.declared.letter.Mail.{Mail}
-use Rattle.email_router.specs.declared.recipients.Recipients.{Recipients}
+use Rattle.email_router.specs.declared.chosen.Recipients.{Recipients}
 use Rattle.email_router.specs.declared.action.Size.{Size}
 use Rattle.email_router.specs.declared.action.Action.TheVariants.{Mute, Send}
 use Rattle.email_router.specs.declared.fault.RouterFault.TheVariants.{Tray}

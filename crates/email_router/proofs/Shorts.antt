@@ -6,7 +6,7 @@ use Rattle.address.specs.Text.{Text, blank, unindented, trimmed}
 use Rattle.std.specs.List.{prefix_len, suffix_len}
 use Rattle.mail.specs.declared.list.Mailboxes.{Mailboxes}
 use Rattle.mail.specs.declared.letter.Mail.{Mail}
-use Rattle.mail.specs.declared.roll.Candidates.{Candidates}
+use Rattle.mail.specs.declared.candidate_roll.Candidates.{Candidates}
 use Rattle.mail.specs.Letters.{people, texts, candidates}
 use Rattle.mail.specs.Rolls.{text_at, roll_texts}
 use Rattle.mail.proofs.Numbered.{text_of_roll, no_text_of_roll}

@@ -7,7 +7,7 @@ use Rattle.audience.specs.Answers as audience
 use Rattle.audience.specs.Answers.{everyone, somebody}
 use Rattle.mail.specs.Rolls.{mailed}
 use Rattle.mail.specs.declared.letter.Mail.{Mail}
-use Rattle.email_router.specs.declared.recipients.Recipients.{Recipients}
+use Rattle.email_router.specs.declared.chosen.Recipients.{Recipients}
 use Rattle.email_router.specs.declared.action.Size.{Size}
 use Rattle.email_router.specs.declared.action.Action.{Action}
 use Rattle.email_router.specs.declared.action.Action.TheVariants.{Mute, Send}

@@ -1,5 +1,5 @@
 -- Sizes that sums of them fit a machine word.
-use Rattle.std.specs.Prelude.{ℕ, ◌*◌, ◌≤◌}
+use Rattle.std.specs.Prelude.{◌*◌, ◌≤◌}
 use Rattle.email_router.specs.declared.action.Size.{Size}
 use Rattle.email_router.specs.declared.action.Action.{Action}
 use Rattle.email_router.specs.declared.action.Action.TheVariants.{Mute, Send}

@@ -20,7 +20,7 @@ use Rattle.grants.specs.declared.pass.Pass.{Pass}
 use Rattle.grants.specs.declared.pass.Pass.TheVariants.{First, Positive}
 use Rattle.recipients.specs.Choices.{listed_by, to_marks, cc_marks}
 use Rattle.email_router.specs.declared.action.Action.{Action}
-use Rattle.email_router.specs.declared.recipients.Recipients.{Recipients as CodeRecipients}
+use Rattle.email_router.specs.declared.chosen.Recipients.{Recipients as CodeRecipients}
 use Rattle.email_router.specs.Actions.{action_of}
 use Rattle.email_router.specs.Envelope.{pack_answer, pack_positive}
 

@@ -1,6 +1,5 @@
 -- The bytes of an answer: a bit map, then the rolls that are not empty.
 use Rattle.std.specs.Prelude.{ℕ, ◌+◌, Bool, List, [], ◌∷◌, ◌++◌, Some, None, Option}
-use Rattle.address.specs.Text.{Text}
 use Rattle.email_policy.specs.Numbers.{weighed}
 use Rattle.email_policy.specs.Packing.{some_text, pack_part}
 use Rattle.email_policy.specs.declared.policy.PositiveReviewPolicy.{PositiveReviewPolicy}

@@ -12,9 +12,9 @@ ghost use Rattle.email_router.specs.Envelope.{rank_bits, send_map, nothing, pack
 ghost use Rattle.email_router.specs.Given.{given, answered};
 
 use crate::action::Action;
+use crate::chosen::Recipients;
 use crate::fault::RouterFault;
 use crate::measure::action_len;
-use crate::recipients::Recipients;
 use address::trim;
 use email_policy::PositiveReviewPolicy;
 use keep_first::{Roll, keep_first};

@@ -2,16 +2,13 @@
 #![tactic(auto)]
 
 mod action;
-mod calls;
+mod chosen;
 mod door;
 mod envelope;
 mod fault;
 mod laws;
 mod measure;
-mod recipients;
 mod report;
-mod resolve;
 
-pub use calls::{resolve_positive_recipients, resolve_recipients};
 pub use fault::{Incoming, Person, RouterFault};
 pub use laws::envelopes_stand;

@@ -5,7 +5,7 @@ ghost use Rattle.email_router.specs.Actions.{sent_to, size_of, action_of, part_s
 ghost use Rattle.email_router.specs.Bounds.{Small, SmallAction};
 
 use crate::action::{Action, Size};
-use crate::recipients::Recipients;
+use crate::chosen::Recipients;
 use address::trim;
 use email_policy::PositiveReviewPolicy;
 use keep_first::{Roll, standing};

@@ -1,9 +1,9 @@
 -- What a lawful policy adds is short and little.
-use Rattle.std.proofs.Common.{◌≡◌, ℕ, zero, suc, ◌+◌, ◌*◌, ◌<◌, ◌≤◌, Bool, true, false, cond, ◌⊎◌, List, [], ◌∷◌, ◌++◌, map, length, get_or, sym, refl, ap, subst, inl, inr, arith}
+use Rattle.std.proofs.Common.{◌≡◌, ℕ, zero, suc, ◌*◌, ◌<◌, ◌≤◌, Bool, true, false, ◌⊎◌, List, [], ◌∷◌, ◌++◌, map, length, get_or, sym, refl, ap, subst, inl, inr, arith}
 use Rattle.std.specs.List.{flat_map}
-use Rattle.std.proofs.lemmas.List.{length-append, length-map}
+use Rattle.std.proofs.lemmas.List.{length-append}
 use Rattle.address.specs.Text.{Text}
-use Rattle.roll.specs.Packing.{word, pack_text, pack_texts, pack_roll}
+use Rattle.roll.specs.Packing.{word, pack_text, pack_texts}
 use Rattle.email_policy.specs.Policy.{ListPolicy, DefaultPolicy, Entry, Policy}
 use Rattle.email_policy.specs.Packing.{pack_policy, pack_part, pack_field, bit_map, as_list}
 use Rattle.email_policy.specs.Numbers.{reply_number, rank_number, mute_number}
@@ -11,7 +11,7 @@ use Rattle.email_policy.specs.Lawful.{Lawful, Rising, pack_entry, pack_book}
 use Rattle.email_policy.specs.declared.policy.PositiveReviewPolicy.{PositiveReviewPolicy}
 use Rattle.email_policy.specs.declared.policy.PositiveReviewPolicy.TheVariants.{None as to_none, Author as to_author, All as to_all}
 use Rattle.keep_first.proofs.Members.{In, in_either, map_in}
-use Rattle.audience.specs.Rules.{Rule, Named, rule_of, unless_named, by_defaults, by_lists}
+use Rattle.audience.specs.Rules.{Named, rule_of, unless_named, by_defaults, by_lists}
 use Rattle.audience.specs.Answers.{positive_rule}
 use Rattle.audience.proofs.Members.{joined_in}
 use Rattle.mail.specs.Marks.{marked}

@@ -1,7 +1,6 @@
 -- The rules of the named lists, taken together one after another.
 use Rattle.std.specs.Prelude.{Bool, true, false, cond, ◌||◌, List, [], ◌∷◌}
 use Rattle.email_policy.specs.Policy.{ListPolicy, DefaultPolicy, Entry}
-use Rattle.email_policy.specs.declared.policy.ReplyTo.{ReplyTo}
 use Rattle.email_policy.specs.declared.policy.PositiveReviewPolicy.{PositiveReviewPolicy}
 use Rattle.email_policy.specs.declared.policy.PositiveReviewPolicy.TheVariants.{None as to_none, Author as to_author, All as to_all}
 use Rattle.audience.specs.Rules.{rule_of, higher}

@@ -11,7 +11,7 @@ use Rattle.keep_first.proofs.Alike.{commutes}
 use Rattle.keep_first.proofs.Counts.{length-kept_any}
 use Rattle.mail.specs.declared.list.Mailboxes.{Mailboxes}
 use Rattle.mail.specs.declared.letter.Mail.{Mail}
-use Rattle.mail.specs.declared.roll.Candidates.{Candidates}
+use Rattle.mail.specs.declared.candidate_roll.Candidates.{Candidates}
 use Rattle.mail.specs.Letters.{candidates}
 use Rattle.mail.specs.Marks.{marked}
 use Rattle.mail.specs.Rolls.{text_at, classes_of, preferred_of, roll_texts, kept_places, mailed}

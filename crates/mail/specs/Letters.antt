@@ -1,5 +1,5 @@
 -- What mailboxes say: the texts, and the mail.
-use Rattle.std.specs.Prelude.{ℕ, ◌+◌, List, [], ◌++◌, map, take, drop, slice_index_or}
+use Rattle.std.specs.Prelude.{◌+◌, List, [], ◌++◌, map, take, drop, slice_index_or}
 use Rattle.address.specs.Text.{Text}
 use Rattle.audience.specs.Mail as audience
 use Rattle.mail.specs.declared.list.Mailboxes.{Mailboxes}

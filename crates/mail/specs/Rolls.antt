@@ -8,7 +8,7 @@ use Rattle.keep_first.specs.Model.{Classes, Equivalence, kept}
 use Rattle.keep_first.specs.Equivalences.{same_after}
 use Rattle.mail.specs.declared.list.Mailboxes.{Mailboxes}
 use Rattle.mail.specs.declared.letter.Mail.{Mail}
-use Rattle.mail.specs.declared.roll.Candidates.{Candidates}
+use Rattle.mail.specs.declared.candidate_roll.Candidates.{Candidates}
 use Rattle.mail.specs.Letters.{candidates}
 
 -- text i, empty past the last one

@@ -4,9 +4,9 @@ ghost use Rattle.address.specs.Address.{address_part};
 ghost use Rattle.audience.specs.Due.{has_angle};
 ghost use Rattle.mail.specs.Rolls.{text_at, roll_texts, classes_of, preferred_of, alike_by_bare};
 
+use crate::candidate_roll::Candidates;
 use crate::letter::Mail;
 use crate::list::Mailboxes;
-use crate::roll::Candidates;
 use crate::table::{part, text};
 use keep_first::Roll;
 

@@ -1,5 +1,5 @@
 -- The packed book of a lawful policy is accepted, and read back as it.
-use Rattle.std.proofs.Common.{◌≡◌, ℕ, ◌+◌, ◌≤◌, Bool, true, false, cond, ltb, List, [], ◌∷◌, ◌++◌, length, Some, None, Ok, Err, Option, Result, sym, refl, ap, ◌∙◌, subst, arith, MatchResult}
+use Rattle.std.proofs.Common.{◌≡◌, ℕ, ◌+◌, ◌≤◌, Bool, true, false, ltb, List, [], ◌∷◌, ◌++◌, length, Some, None, Ok, Err, Option, Result, sym, refl, ap, ◌∙◌, subst, arith, MatchResult}
 use Rattle.std.proofs.lemmas.Bool.{le-leb, le-ltb, ltb-false, and_from, cond-true, cond-false, cond_both}
 use Rattle.std.specs.List.{flat_map}
 use Rattle.address.specs.Text.{Text}
@@ -20,7 +20,7 @@ use Rattle.email_policy.specs.Reading.{read_policy, cc_place, ignored_place, as_
 use Rattle.email_policy.specs.declared.fault.KeyFault.{KeyFault}
 use Rattle.email_policy.specs.declared.fault.KeyFault.TheVariants.{TooLong}
 use Rattle.email_policy.specs.declared.fault.RecordFault.{RecordFault}
-use Rattle.email_policy.proofs.Records.{packs_policy, defaults_back}
+use Rattle.email_policy.proofs.Records.{packs_policy}
 use Rattle.email_policy.proofs.Places.{bytes_pass, own_passes, key_passes, else_parts}
 use Rattle.packed_book.specs.declared.fault.OpenFault.{OpenFault}
 use Rattle.packed_book.specs.Ends.{BookEnd, any_text, all_there, asked, in_policy, bytes_question, key_at, policy_end, list_end, lists_end, count_end, filled, whole_book}

@@ -1,5 +1,5 @@
 -- The key at a place, cut out of the bytes.
-use Rattle.std.proofs.Common.{◌≡◌, ℕ, ◌+◌, ◌-◌, ◌<◌, ◌≤◌, min, List, [], length, take, drop, Some, None, Option, sym, refl, ap, ◌∙◌, ⊎_elim, arith}
+use Rattle.std.proofs.Common.{◌≡◌, ℕ, ◌+◌, ◌-◌, ◌<◌, ◌≤◌, min, List, [], length, take, drop, Some, None, Option, sym, ap, ◌∙◌, ⊎_elim, arith}
 use Rattle.std.proofs.lemmas.List.{take_rest, take_all, drop_all, length-drop}
 use Rattle.std.proofs.lemmas.Bool.{cond_both, leb-false, cases_lt}
 use Rattle.roll.specs.Ends.{word_at, there, read_word}

@@ -1,11 +1,11 @@
 -- A packed book that is accepted is the packed book of the policy that is read from it.
-use Rattle.std.specs.Prelude.{◌≡◌, ℕ, zero, suc, ◌+◌, ◌≤◌, Bool, true, false, cond, List, [], ◌∷◌, ◌++◌, length, None, Ok, Err, Result, nat_le, nat_lt, refl}
+use Rattle.std.specs.Prelude.{◌≡◌, ℕ, zero, suc, ◌+◌, ◌≤◌, Bool, true, false, List, [], ◌++◌, length, None, Ok, Err, Result, nat_le, nat_lt, refl}
 use Rattle.std.proofs.Common.{sym, ◌∙◌, ap, subst, arith}
 use Rattle.std.proofs.lemmas.Bool.{leb-true, ltb-false, and_parts, cond_both}
 use Rattle.std.specs.List.{flat_map}
 use Rattle.address.specs.Text.{Text}
 use Rattle.address.specs.Address.{bare}
-use Rattle.roll.specs.Ends.{after, word_at, text_end}
+use Rattle.roll.specs.Ends.{word_at, text_end}
 use Rattle.roll.specs.Laws.{Bytes, Stands}
 use Rattle.roll.specs.Packing.{word, pack_text}
 use Rattle.roll.proofs.Standing.{join, nothing, stands_whole}
@@ -14,7 +14,7 @@ use Rattle.email_policy.specs.Ends.{record_end}
 use Rattle.email_policy.specs.Keys.{rises}
 use Rattle.email_policy.specs.Lawful.{Fine, FineEntry, Rising, pack_entry, pack_book, most_lists, longest_book}
 use Rattle.email_policy.specs.Packing.{pack_policy, as_list}
-use Rattle.email_policy.specs.Policy.{ListPolicy, Entry}
+use Rattle.email_policy.specs.Policy.{ListPolicy}
 use Rattle.email_policy.specs.Questions.{bytes_fault, own_place}
 use Rattle.email_policy.specs.Reading.{read_policy, cc_place, ignored_place, as_defaults, end_or}
 use Rattle.email_policy.proofs.Records.{reads_policy, defaults_back}
@@ -23,7 +23,7 @@ use Rattle.packed_book.specs.declared.fault.OpenFault.{OpenFault}
 use Rattle.packed_book.specs.declared.fault.OpenFault.TheVariants.{LeftOver}
 use Rattle.packed_book.specs.Ends.{any_text, in_policy, bytes_question, key_at, policy_end, list_end, lists_end, count_end, filled, whole_book}
 use Rattle.packed_book.specs.Reading.{policy_place, next_place, entry_at, entries_at, count_place, read_book}
-use Rattle.packed_book.specs.Laws.{Packed, ReadsBooks}
+use Rattle.packed_book.specs.Laws.{ReadsBooks}
 use Rattle.packed_book.specs.Questions.{told, there_back, policy_back, bytes_back, list_passed}
 
 pub record ReadPolicy (full : Bool) (bs : List ℕ) (at e : ℕ) : Type 0 where

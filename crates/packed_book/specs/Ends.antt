@@ -6,12 +6,11 @@ use Rattle.address.specs.Address.{bare}
 use Rattle.roll.specs.Ends.{after, word_at, there, text_end}
 use Rattle.roll.specs.declared.fault.RollFault.{RollFault}
 use Rattle.roll.specs.declared.limits.Limits.{Limits}
-use Rattle.email_policy.specs.Ends.{RecordEnd, record_end}
+use Rattle.email_policy.specs.Ends.{record_end}
 use Rattle.email_policy.specs.Keys.{key_fault, rises}
 use Rattle.email_policy.specs.Lawful.{most_lists, longest_book}
 use Rattle.email_policy.specs.Questions.{bytes_fault, own_place}
 use Rattle.email_policy.specs.Reading.{read_policy, cc_place, ignored_place}
-use Rattle.email_policy.specs.declared.fault.PolicyFault.{PolicyFault}
 use Rattle.email_policy.specs.declared.fault.PolicyFault.TheVariants.{Key, Record, OwnAddress}
 use Rattle.email_policy.specs.declared.fault.RecordFault.{RecordFault}
 use Rattle.packed_book.specs.declared.fault.OpenFault.{OpenFault}

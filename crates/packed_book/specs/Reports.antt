@@ -1,6 +1,5 @@
 -- What each fault of a packed book says, case by case: its number, its layer, the part and the place. In
 -- opening, the part is the book whatever is at fault in it.
-use Rattle.std.specs.Prelude.{ℕ}
 use Rattle.email_policy.specs.Reports.{reported, policy_report}
 use Rattle.email_policy.specs.declared.report.Report.{Report}
 use Rattle.email_policy.specs.declared.fault.Layer.TheVariants.{Book, Router}

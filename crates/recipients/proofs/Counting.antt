@@ -12,7 +12,7 @@ use Rattle.audience.specs.Due.{counts}
 use Rattle.mail.specs.declared.letter.Mail as mail
 use Rattle.mail.specs.declared.list.Mailboxes.{Mailboxes}
 use Rattle.mail.specs.declared.mailbox.Mailbox.{Mailbox}
-use Rattle.mail.specs.declared.roll.Candidates.{Candidates}
+use Rattle.mail.specs.declared.candidate_roll.Candidates.{Candidates}
 use Rattle.mail.specs.Letters.{letter, people, texts}
 use Rattle.mail.specs.Marks.{marked}
 use Rattle.mail.specs.Parts.{part_in}

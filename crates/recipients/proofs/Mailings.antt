@@ -8,7 +8,7 @@ use Rattle.audience.specs.Rules as audience
 use Rattle.audience.specs.Due.{has_angle, to_texts, cc_texts}
 use Rattle.mail.specs.declared.letter.Mail.{Mail}
 use Rattle.mail.specs.declared.list.Mailboxes.{Mailboxes}
-use Rattle.mail.specs.declared.roll.Candidates.{Candidates}
+use Rattle.mail.specs.declared.candidate_roll.Candidates.{Candidates}
 use Rattle.mail.specs.Letters.{letter, people, texts}
 use Rattle.mail.specs.Marks.{marked}
 use Rattle.mail.specs.Rolls.{roll_texts, mailed}

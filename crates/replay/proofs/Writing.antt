@@ -1,10 +1,7 @@
 -- The line for a book that was written out.
 use Rattle.std.proofs.Common.{◌≡◌, ℕ, Bool, true, false, List, ◌++◌, is_ok, Some, Ok, Err, codes, Result, sym, refl, ap, ◌∙◌, subst}
 use Rattle.std.proofs.lemmas.List.{append_assoc}
-use Rattle.email_policy.specs.Lawful.{pack_book}
 use Rattle.packed_book.specs.Ends.{whole_book}
-use Rattle.packed_book.specs.Reading.{read_book}
-use Rattle.packed_book.specs.Writing.{write_answer, write_tray}
 use Rattle.packed_book.specs.declared.write.TrayTooShort.{TrayTooShort}
 use Rattle.replay.specs.Hex.{hex}
 use Rattle.std.proofs.lemmas.Bool.{true≢false}
@@ -12,7 +9,7 @@ use Rattle.packed_book.specs.declared.fault.OpenFault.{OpenFault}
 use Rattle.replay.specs.declared.line.Outcome.{Outcome}
 use Rattle.replay.specs.declared.line.Outcome.TheVariants.{Done}
 use Rattle.replay.specs.declared.turn.LineFault.TheVariants.{NoPackedBook}
-use Rattle.replay.specs.Lines.{State, write_packed, with_tray, said_of, written_line, written_out, given, shown_given, Shows}
+use Rattle.replay.specs.Lines.{State, write_packed, with_tray, said_of, written_out, given, shown_given, Shows}
 use Rattle.replay.specs.Turns.{WrittenOut, Wrote}
 
 pub wrote_line : (bs tray tray' o₀ o₁ o₂ : List ℕ) (a : Result ℕ TrayTooShort) → WrittenOut bs tray tray' (Ok a) → o₁ ≡ o₀ ++ said_of tray' a → o₂ ≡ with_tray o₁ tray' → Wrote true o₀ o₂ bs tray

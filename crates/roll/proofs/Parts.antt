@@ -1,10 +1,9 @@
 -- Each part of a roll, both ways: read, it is what stands there; standing there, it is read.
-use Rattle.std.proofs.Common.{◌≡◌, ℕ, zero, suc, ◌+◌, ◌/◌, ◌%◌, ◌<◌, ◌≤◌, Bool, true, false, cond, List, [], ◌∷◌, ◌++◌, length, get_or, take, drop, Some, None, Ok, Err, Option, Result, sym, refl, ap, ◌∙◌, subst, arith}
+use Rattle.std.proofs.Common.{◌≡◌, ℕ, zero, suc, ◌+◌, ◌/◌, ◌%◌, ◌<◌, ◌≤◌, Bool, true, false, cond, List, [], ◌∷◌, ◌++◌, length, get_or, take, drop, Some, Ok, Err, Result, sym, refl, ap, ◌∙◌, subst, arith}
 use Rattle.std.proofs.lemmas.List.{length-drop, get_or-drop, drop-drop}
 use Rattle.std.proofs.lemmas.Bool.{le-leb, leb-true, and_parts, and_from, cond-true}
 use Rattle.std.specs.List.{AllByRecursion}
 use Rattle.address.specs.Text.{Text}
-use Rattle.roll.specs.declared.fault.RollFault.{RollFault}
 use Rattle.roll.specs.declared.limits.Limits.{Limits}
 use Rattle.roll.specs.Packing.{word, pack_text, pack_texts}
 use Rattle.roll.specs.Ends.{after, word_at, there, text_end, texts_end, roll_end}

@@ -1,6 +1,5 @@
 -- Where a fault of a roll stands.
 use Rattle.std.specs.Prelude.{ℕ}
-use Rattle.address.specs.declared.text.TextFault.{TextFault}
 use Rattle.roll.specs.declared.fault.RollFault.{RollFault}
 use Rattle.roll.specs.declared.fault.RollFault.TheVariants.{Count, Length, LeftOver, InText}
 

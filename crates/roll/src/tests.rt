@@ -35,7 +35,10 @@ fn addresses(rt: HostRuntime) {
     for (n, text) in ADDRESSES.iter().enumerate() {
         assert_eq!(rt; address(&to, &cc, n), *text);
     }
-    assert_eq!(rt; roll_text(b"\xff\0\x02\0\x01a\0\x02bc", 1, 1), Some(b"bc".as_slice()));
+    assert_eq!(rt;
+        roll_text(b"\xff\0\x02\0\x01a\0\x02bc", 1, 1),
+        Some(b"bc".as_slice())
+    );
 }
 
 #[test]

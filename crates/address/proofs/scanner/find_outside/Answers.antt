@@ -1,8 +1,7 @@
-use Rattle.std.proofs.Common.{◌≡◌, ◌≢◌, ◌+◌, ◌-◌, get_or, drop, sym, ap, ◌∙◌, arith, rules}
+use Rattle.std.proofs.Common.{◌≡◌, ◌≢◌, ◌-◌, get_or, sym, ◌∙◌, arith, rules}
 use Rattle.address.specs.Quoted.{next}
 use Rattle.address.specs.declared.scanner.Scanner.TheVariants.{Outside}
-use Rattle.address.proofs.Places.{from}
-use Rattle.address.proofs.Quotes.{place, seen_from, unseen, seen_at_start, seen_before, seen_past, seen_found, seen_end}
+use Rattle.address.proofs.Quotes.{unseen, seen_at_start, seen_before, seen_past, seen_found, seen_end}
 use Rattle.address.proofs.scanner.find_outside.Goals as goal
 use Rattle.address.proofs.scanner.find_outside.Goals.{else-eq-via-then-eq+else-b-c, else-eq-via-else-eq, then-i-ordinary, else-i-ordinary}
 

@@ -1,4 +1,4 @@
-use Rattle.std.proofs.Common.{◌≡◌, ◌-◌, min, length, take, drop, ap, arith}
+use Rattle.std.proofs.Common.{◌-◌, length, drop, ap, arith}
 use Rattle.std.proofs.lemmas.List.{length-take, length-drop}
 use Rattle.email_policy.proofs.KeyBytes.{key_bad, key_long, key_short}
 use Rattle.email_policy.proofs.keys.text_fault.Goals as goal

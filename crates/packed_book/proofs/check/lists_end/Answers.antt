@@ -1,4 +1,4 @@
-use Rattle.std.proofs.Common.{arith, rules}
+use Rattle.std.proofs.Common.{arith}
 use Rattle.std.proofs.lemmas.Result.{err_from_is_err_and}
 use Rattle.packed_book.proofs.Walks.{lists_go, lists_stop, lists_all}
 use Rattle.packed_book.proofs.check.lists_end.Goals as goal

@@ -1,7 +1,6 @@
-use Rattle.std.proofs.Common.{◌≡◌, ℕ, ◌+◌, List, length, sym, refl, ap, subst, arith}
+use Rattle.std.proofs.Common.{ℕ, ◌+◌, List, sym, refl, subst, arith}
 use Rattle.std.proofs.lemmas.Bool.{lt-ltb}
 use Rattle.roll.specs.Packing.{word, pack_texts}
-use Rattle.email_policy.specs.Packing.{pack_part}
 use Rattle.packed_book.specs.Rows.{record_of, texts_of, Puts}
 use Rattle.packed_book.proofs.Puts.{puts_none, puts_put, puts_then}
 use Rattle.packed_book.proofs.Rows.{part_none, part_some, part_length}

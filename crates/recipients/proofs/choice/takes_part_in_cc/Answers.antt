@@ -1,6 +1,6 @@
 use Rattle.std.proofs.Common.{ℕ, ◌+◌, ◌-◌, ◌<◌, length, sym, ◌∙◌, arith}
 use Rattle.std.proofs.lemmas.List.{length-map}
-use Rattle.mail.specs.Letters.{letter, texts, people}
+use Rattle.mail.specs.Letters.{letter, texts}
 use Rattle.mail.specs.Parts.{text_in}
 use Rattle.mail.proofs.Numbered.{part_read}
 use Rattle.grants.specs.Rules.{meant}

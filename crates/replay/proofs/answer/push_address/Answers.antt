@@ -1,6 +1,5 @@
 use Rattle.std.proofs.Common.{◌++◌, vec_items, codes, ap, ◌∙◌}
 use Rattle.address.specs.Text.{small}
-use Rattle.address.specs.Address.{domain}
 use Rattle.replay.specs.Hex.{hex}
 use Rattle.replay.specs.Lines.{line_of}
 use Rattle.replay.proofs.AddressLines.{pushed}

@@ -1,4 +1,4 @@
-use Rattle.std.proofs.Common.{◌≡◌, vec_items, ap, subst}
+use Rattle.std.proofs.Common.{vec_items, ap, subst}
 use Rattle.std.specs.Option.{option_map}
 use Rattle.replay.specs.Turns.{Wrote}
 use Rattle.replay.proofs.Writing.{refused_again, shown-written}

@@ -1,4 +1,3 @@
-use Rattle.std.proofs.Common.{refl, inr}
 use Rattle.replay.specs.Lines.{asked, UnlessMemory}
 use Rattle.replay.proofs.Trays.{picked, passed}
 use Rattle.replay.proofs.turn.turn_of.Goals as goal

@@ -1,8 +1,6 @@
-use Rattle.std.proofs.Common.{ℕ, List, map, length, Ok, Err, Result, sym, ap, ◌∙◌, arith, Bor}
+use Rattle.std.proofs.Common.{ℕ, List, map, length, sym, ap, ◌∙◌, arith, Bor}
 use Rattle.std.proofs.lemmas.List.{length-map, take_all}
 use Rattle.address.specs.Text.{Text}
-use Rattle.roll.specs.declared.write.WriteFault.{WriteFault}
-use Rattle.roll.specs.declared.write.WriteFault.TheVariants.{Tray}
 use Rattle.roll.specs.Packing.{word, pack_texts}
 use Rattle.roll.specs.Written.{written}
 use Rattle.roll.proofs.Writes.{length-written, wrote_none}

@@ -3,7 +3,7 @@ use Rattle.address.specs.Address.{address_part}
 use Rattle.mail.specs.Letters.{candidates}
 use Rattle.mail.specs.Rolls.{roll_texts}
 use Rattle.mail.proofs.Numbered.{text_of_roll, no_text_of_roll}
-use Rattle.mail.proofs.roll.Candidates.part.Goals as goal
+use Rattle.mail.proofs.candidate_roll.Candidates.part.Goals as goal
 
 pub returns-then-i-self : goal.returns-then-i-self
 unfolding roll_texts

@@ -2,7 +2,7 @@ use Rattle.std.proofs.Common.{length, ◌∙◌}
 use Rattle.mail.specs.Letters.{candidates}
 use Rattle.mail.specs.Rolls.{roll_texts}
 use Rattle.mail.proofs.Numbered.{text_of_roll, no_text_of_roll}
-use Rattle.mail.proofs.roll.Candidates.text.Goals as goal
+use Rattle.mail.proofs.candidate_roll.Candidates.text.Goals as goal
 
 pub returns-then-i-self : goal.returns-then-i-self
 unfolding roll_texts
