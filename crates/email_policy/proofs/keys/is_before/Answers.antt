@@ -1,6 +1,5 @@
-use Rattle.std.proofs.Common.{◌∙◌}
 use Rattle.email_policy.proofs.KeyOrder.{before_partly}
 use Rattle.email_policy.proofs.keys.is_before.Goals as goal
 
 pub returns : goal.returns
-returns c = c.lt.ensures ∙ before_partly c.args.a.now c.args.b.now
+returns c = cc (before_partly c.args.a.now c.args.b.now)
