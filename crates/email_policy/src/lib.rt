@@ -20,7 +20,7 @@ pub use laws::{
 };
 pub use policy::{PositiveReviewPolicy, ReplyTarget, ReplyTo};
 pub use questions::{check_bytes, own_address};
-pub use record::{check_record, record_end};
+pub use record::{MOST_TEXTS, check_record, record_end};
 pub use report::Report;
 pub use source::PolicySource;
 

@@ -40,6 +40,13 @@ impl ReplyTarget {
 }
 
 impl ReplyTo {
+    /// No target.
+    pub const NOBODY: ReplyTo = ReplyTo {
+        author: false,
+        list: false,
+        recipients: false,
+    };
+
     /// Whether the policy replies to this target.
     pub fn contains(&self, target: ReplyTarget) -> bool
         ensures { result ≡ contains self.now target }

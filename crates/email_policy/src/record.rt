@@ -16,6 +16,9 @@ pub(crate) const IN_RECORD: Limits = Limits {
     longest: 65535,
 };
 
+/// A roll in a record has at most so many texts.
+pub const MOST_TEXTS: usize = IN_RECORD.most;
+
 const LONGEST_RECORD: usize = 1024;
 
 /// The end of a field byte, at most `max`, that is there only if its bit stands.

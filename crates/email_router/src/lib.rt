@@ -1,4 +1,4 @@
-//! Who is mailed a review: the two resolve calls, over every policy source.
+//! What the two resolve calls stand on: their questions at the door, their faults, and the envelope that they write.
 #![tactic(auto)]
 
 mod action;

@@ -1,16 +1,12 @@
 // The cc texts that policies add.
-ghost use Rattle.std.specs.Prelude.{List, ◌++◌};
-ghost use Rattle.address.specs.Text.{Text};
-ghost use Rattle.mail.specs.Tables.{Holds, fitting};
+ghost use Rattle.std.specs.Prelude.{◌≡◌, drop};
+ghost use Rattle.mail.specs.Tables.{Holds, fitting, Appends};
 ghost use Rattle.grants.specs.Rules.{grant_by, entry_at};
 
 use crate::pass::Pass;
 use crate::rule::{is_marked, rule_of};
-use email_policy::PolicySource;
+use email_policy::{MOST_TEXTS, PolicySource};
 use mail::{Mailbox, append};
-
-/// A roll in a record has at most so many texts.
-const MOST_TEXTS: usize = 32;
 
 /// Appends the cc texts of list `n`.
 fn append_list<'a, S: PolicySource>(
@@ -19,7 +15,7 @@ fn append_list<'a, S: PolicySource>(
     table: &mut [Mailbox<'a>],
     end: usize,
 ) -> usize
-    ensures { (ts : List Text) → Holds table.old end ts → Holds table.new result (fitting table.old (ts ++ (entry_at (S.meaning source.now) n).policy.cc)) }
+    ensures { Appends table.old end (entry_at (S.meaning source.now) n).policy.cc table.new result }
 {
     let mut end = end;
     for m in 0..MOST_TEXTS {
@@ -37,7 +33,7 @@ fn append_defaults<'a, S: PolicySource>(
     table: &mut [Mailbox<'a>],
     end: usize,
 ) -> usize
-    ensures { (ts : List Text) → Holds table.old end ts → Holds table.new result (fitting table.old (ts ++ (S.meaning source.now).defaults.cc)) }
+    ensures { Appends table.old end (S.meaning source.now).defaults.cc table.new result }
 {
     let mut end = end;
     for m in 0..MOST_TEXTS {
@@ -57,7 +53,8 @@ pub fn gather_cc<'a, S: PolicySource>(
     pass: Pass,
     table: &mut [Mailbox<'a>],
 ) -> usize
-    ensures { Holds table.new result (fitting table.old (grant_by pass named.now (S.meaning source.now)).cc) }
+    ensures holds { Holds table.new result (fitting table.old (grant_by pass named.now (S.meaning source.now)).cc) }
+    ensures rest { drop result table.new ≡ drop result table.old }
 {
     let mut end = 0;
     for n in 0..source.len() {

@@ -7,11 +7,8 @@ ghost use Rattle.mail.specs.Letters.{letter};
 ghost use Rattle.grants.specs.Rules.{entry_at};
 
 use address::contains_small;
-use email_policy::PolicySource;
+use email_policy::{MOST_TEXTS, PolicySource};
 use mail::Mail;
-
-/// A roll in a record has at most so many texts.
-const MOST_TEXTS: usize = 32;
 
 /// Whether list `n` ignores the author.
 fn is_ignored_by<S: PolicySource>(source: &S, author: &[u8], n: usize) -> bool

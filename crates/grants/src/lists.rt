@@ -1,5 +1,5 @@
 // The lists: their keys, which of them are named, and which are replied to.
-ghost use Rattle.std.specs.Prelude.{◌≡◌, false, ◌&&◌, map, slice_index_or};
+ghost use Rattle.std.specs.Prelude.{◌≡◌, false, ◌&&◌, map, drop, slice_index_or};
 ghost use Rattle.address.specs.Address.{address_part, same_bare};
 ghost use Rattle.keep_first.specs.Keep.{some};
 ghost use Rattle.audience.specs.Mail.{incoming};
@@ -16,7 +16,8 @@ use mail::{Mail, Mailbox, Mailboxes, append};
 
 /// Fills a table with the keys of the lists, as far as there is room, and gives how many there are.
 pub fn read_keys<'a, S: PolicySource>(source: &'a S, table: &mut [Mailbox<'a>]) -> usize
-    ensures { Holds table.new result (fitting table.old (keys_of (S.meaning source.now))) }
+    ensures holds { Holds table.new result (fitting table.old (keys_of (S.meaning source.now))) }
+    ensures rest { drop result table.new ≡ drop result table.old }
 {
     let mut end = 0;
     for n in 0..source.len() {

@@ -17,12 +17,6 @@ pub(crate) struct Rule {
     pub(crate) gives_cc: bool,
 }
 
-const NOBODY: ReplyTo = ReplyTo {
-    author: false,
-    list: false,
-    recipients: false,
-};
-
 /// The rule of list `n`.
 pub(crate) fn rule_of<S: PolicySource>(source: &S, n: usize, pass: Pass) -> Rule
     ensures { result ≡ code_rule pass (S.meaning source.now).defaults (entry_at (S.meaning source.now) n).policy }
@@ -34,7 +28,7 @@ pub(crate) fn rule_of<S: PolicySource>(source: &S, n: usize, pass: Pass) -> Rule
     let mute_all = source.mute_all(n).unwrap_or(source.default_mute_all());
     let (reply_to, gives_cc) = match (pass, positive_review) {
         (Pass::First, _) => (reply_to, true),
-        (Pass::Positive, PositiveReviewPolicy::None) => (NOBODY, false),
+        (Pass::Positive, PositiveReviewPolicy::None) => (ReplyTo::NOBODY, false),
         (Pass::Positive, PositiveReviewPolicy::Author) => (
             ReplyTo {
                 author: reply_to.author,

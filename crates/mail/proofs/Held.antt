@@ -1,14 +1,14 @@
 -- Tables that are filled from the front.
-use Rattle.std.proofs.Common.{◌≡◌, ℕ, zero, suc, ◌+◌, ◌<◌, ◌≤◌, List, [], ◌∷◌, ◌++◌, map, length, get_or, take, set, Some, None, sym, refl, ap, ◌∙◌, subst, inl, inr, arith}
+use Rattle.std.proofs.Common.{◌≡◌, ℕ, zero, suc, ◌+◌, ◌-◌, ◌<◌, ◌≤◌, List, [], ◌∷◌, ◌++◌, map, length, get_or, take, drop, set, Some, None, sym, refl, ap, ◌∙◌, subst, inl, inr, arith}
 use Rattle.std.specs.List.{slice_get}
-use Rattle.std.proofs.lemmas.List.{length-map, length-set, length-take-le, length_push, take_all, take_at, take_more, take_more_set, map_push, append-nil, append_assoc}
+use Rattle.std.proofs.lemmas.List.{length-map, length-set, length-take-le, length_push, drop-drop, drop-set-lt, take_all, take_at, take_more, take_more_set, map_push, append-nil, append_assoc}
 use Rattle.std.proofs.lemmas.Option.{slice_get-get_or, slice_get_past}
 use Rattle.std.proofs.lemmas.Bool.{cases_lt}
 use Rattle.address.specs.Text.{Text}
 use Rattle.address.specs.Address.{address_part}
 use Rattle.mail.specs.declared.mailbox.Mailbox.{Mailbox}
 use Rattle.mail.specs.Parts.{text_in, part_in}
-use Rattle.mail.specs.Tables.{Holds, fitting}
+use Rattle.mail.specs.Tables.{Holds, fitting, Appends}
 
 -- what did not fit does not come back
 pub take-fitting : {X : Type 0} (n : ℕ) (ts us : List X) → take n (take n ts ++ us) ≡ take n (ts ++ us)
@@ -50,19 +50,36 @@ module _ (table : List Mailbox) (n : ℕ) (ts : List Text) (held : Holds table n
             ∙ ap (λ x. map by_text (take n table) ++ x ∷ []) (part ∙ sym (ap address_part text)) ∙ sym (ap (map by_text) front ∙ map_push by_text (take n table) m);
       }
 
--- what a writer does to a table whose first n are filled: more texts stand behind, as far as they fit
-abbrev pub Appends : List Mailbox → ℕ → List Text → List Mailbox → ℕ → Type 0
-Appends table n us after r = (ts : List Text) → Holds table n ts → Holds after r (fitting table (ts ++ us))
-
 pub appends_none : (table : List Mailbox) (n : ℕ) → Appends table n [] table n
-appends_none table n ts held = holds_none table n ts held
+appends_none table n = record { more = omega arith; holds = holds_none table n; rest = refl }
+
+-- one text, where there is room for it
+pub appends_full : (table : List Mailbox) (n : ℕ) (t : Text) → length table ≤ n → Appends table n (t ∷ []) table n
+appends_full table n t full = record { more = omega arith; holds = λ ts held. holds_full table n ts held t full; rest = refl }
+
+pub appends_one : (table : List Mailbox) (n : ℕ) (m : Mailbox) (t : Text) → n < length table → text_in m ≡ t → part_in m ≡ address_part t → Appends table n (t ∷ []) (set table n m) (n + 1)
+appends_one table n m t room text part = record {
+  more = omega arith;
+  holds = λ ts held. holds_pushed table n ts held m t room text part;
+  rest = drop-set-lt (n + 1) table n m (omega arith);
+}
 
 -- one writer after another
 pub appends_more : (table : List Mailbox) (n : ℕ) (us : List Text) (middle : List Mailbox) (m : ℕ) (vs : List Text) (after : List Mailbox) (r : ℕ) → length middle ≡ length table → Appends table n us middle m → Appends middle m vs after r → Appends table n (us ++ vs) after r
-appends_more table n us middle m vs after r long first second ts held =
-    let e : take (length middle) (take (length table) (ts ++ us) ++ vs) ≡ take (length table) (ts ++ (us ++ vs)) =
-    ap (λ k. take k (take (length table) (ts ++ us) ++ vs)) long ∙ take-fitting (length table) (ts ++ us) vs ∙ ap (take (length table)) (append_assoc ts us vs) in
-    subst (Holds after r) e (second (take (length table) (ts ++ us)) (first ts held))
+appends_more table n us middle m vs after r long first second =
+    let split : m + (r - m) ≡ r = omega (arith, second.more) in
+    record {
+      more = omega (arith, first.more, second.more);
+      holds = λ ts held.
+          let e : take (length middle) (take (length table) (ts ++ us) ++ vs) ≡ take (length table) (ts ++ (us ++ vs)) =
+          ap (λ k. take k (take (length table) (ts ++ us) ++ vs)) long ∙ take-fitting (length table) (ts ++ us) vs ∙ ap (take (length table)) (append_assoc ts us vs) in
+          subst (Holds after r) e (second.holds (take (length table) (ts ++ us)) (first.holds ts held));
+      rest =
+          second.rest
+          ∙ sym (drop-drop (r - m) m middle ∙ ap (λ k. drop k middle) split)
+          ∙ ap (drop (r - m)) first.rest
+          ∙ (drop-drop (r - m) m table ∙ ap (λ k. drop k table) split);
+    }
 
 no_nth : {X : Type 0} (xs : List X) (i : ℕ) → i < length xs → None ≡ slice_get xs i → ⊥
 no_nth [] i h e = absurd (omega arith)

@@ -1,8 +1,7 @@
 // Reading the people of a mail.
-ghost use Rattle.std.specs.Prelude.{List, ◌∷◌, ◌++◌};
-ghost use Rattle.address.specs.Text.{Text};
+ghost use Rattle.std.specs.Prelude.{◌≡◌, ◌∷◌, ◌++◌, drop};
 ghost use Rattle.roll.specs.Views.{viewed};
-ghost use Rattle.mail.specs.Tables.{Holds, fitting};
+ghost use Rattle.mail.specs.Tables.{Holds, fitting, Appends};
 
 use crate::mailbox::Mailbox;
 use crate::table::append;
@@ -15,7 +14,8 @@ pub fn read_people<'m>(
     cc: &Roll<'m>,
     table: &mut [Mailbox<'m>],
 ) -> usize
-    ensures { Holds table.new result (fitting table.old (author.now ∷ (viewed to.now.bytes.now ++ viewed cc.now.bytes.now))) }
+    ensures holds { Holds table.new result (fitting table.old (author.now ∷ (viewed to.now.bytes.now ++ viewed cc.now.bytes.now))) }
+    ensures rest { drop result table.new ≡ drop result table.old }
 {
     let first = append(table, 0, author);
     let second = read_roll(to, table, first);
@@ -24,7 +24,7 @@ pub fn read_people<'m>(
 
 /// Appends the texts of a roll.
 fn read_roll<'m>(roll: &Roll<'m>, table: &mut [Mailbox<'m>], n: usize) -> usize
-    ensures { (ts : List Text) → Holds table.old n ts → Holds table.new result (fitting table.old (ts ++ viewed roll.now.bytes.now)) }
+    ensures { Appends table.old n (viewed roll.now.bytes.now) table.new result }
 {
     let mut end = n;
     for i in 0..roll.len() {

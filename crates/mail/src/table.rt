@@ -1,12 +1,11 @@
 // Tables of mailboxes, and mailboxes by number.
-ghost use Rattle.std.specs.Prelude.{◌≡◌, List, [], ◌∷◌, ◌++◌};
-ghost use Rattle.address.specs.Text.{Text};
+ghost use Rattle.std.specs.Prelude.{◌≡◌, ◌+◌, [], ◌∷◌, map, length, nat_lt, if◌then◌else◌, slice_set};
 ghost use Rattle.address.specs.Address.{address_part};
 ghost use Rattle.keep_first.specs.Keep.{some};
 ghost use Rattle.mail.specs.Letters.{candidates, texts};
-ghost use Rattle.mail.specs.Parts.{same_part};
+ghost use Rattle.mail.specs.Parts.{text_in, part_in, same_part};
 ghost use Rattle.mail.specs.Rolls.{text_at};
-ghost use Rattle.mail.specs.Tables.{Holds, fitting};
+ghost use Rattle.mail.specs.Tables.{Appends};
 
 use crate::letter::Mail;
 use crate::list::Mailboxes;
@@ -14,7 +13,10 @@ use crate::mailbox::Mailbox;
 
 /// Writes a mailbox behind the first `n` of a table, where there is room, and gives how many there are then.
 pub fn append<'a>(table: &mut [Mailbox<'a>], n: usize, text: &'a [u8]) -> usize
-    ensures { (ts : List Text) → Holds table.old n ts → Holds table.new result (fitting table.old (ts ++ (text.now ∷ []))) }
+    ensures count { result ≡ (if nat_lt n (length table.old) then n + 1 else n) }
+    ensures texts { map text_in table.new ≡ slice_set (map text_in table.old) n text.now }
+    ensures parts { map part_in table.new ≡ slice_set (map part_in table.old) n (address_part text.now) }
+    ensures appends { Appends table.old n (text.now ∷ []) table.new result }
 {
     if n >= table.len() {
         return n;

@@ -7,13 +7,6 @@ use crate::check::key_at;
 use crate::view::policy_place;
 use email_policy::{PolicySource, PositiveReviewPolicy, ReplyTo};
 
-/// Whom defaults that leave it out reply to.
-const NOBODY: ReplyTo = ReplyTo {
-    author: false,
-    list: false,
-    recipients: false,
-};
-
 impl<'a> PolicySource for PackedBook<'a> {
     ghost meaning = { λ s. read_book s.bytes.now };
 
@@ -54,7 +47,7 @@ impl<'a> PolicySource for PackedBook<'a> {
     }
 
     fn default_reply_to(&self) -> ReplyTo {
-        email_policy::reply_to(self.bytes, 0).unwrap_or(NOBODY)
+        email_policy::reply_to(self.bytes, 0).unwrap_or(ReplyTo::NOBODY)
     }
 
     fn default_positive_review(&self) -> PositiveReviewPolicy {

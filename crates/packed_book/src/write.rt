@@ -10,7 +10,7 @@ ghost use Rattle.email_policy.specs.Packing.{some_text, pack_part, bit_map, pack
 ghost use Rattle.packed_book.specs.Rows.{record_of, texts_of, byte_row, list_row, Puts};
 ghost use Rattle.packed_book.specs.Writing.{write_answer, write_tray};
 
-use email_policy::PolicySource;
+use email_policy::{MOST_TEXTS, PolicySource};
 use roll::{write_byte, write_text, write_word};
 
 /// The tray is shorter than the book, which needs so many bytes.
@@ -32,8 +32,6 @@ enum Part {
     Cc,
     Ignored,
 }
-
-const MOST_TEXTS: usize = 32;
 
 fn put_byte(tray: &mut [u8], at: usize, byte: Option<u8>) -> usize
     requires { at < 65536 }

@@ -1,5 +1,5 @@
 use Rattle.std.proofs.Common.{take}
-use Rattle.mail.proofs.Held.{Appends}
+use Rattle.mail.specs.Tables.{Appends}
 use Rattle.grants.proofs.copies.append_defaults.Given as goal
 
 abbrev pub invariant-loop-m : goal.invariant-loop-m

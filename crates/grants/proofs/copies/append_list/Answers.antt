@@ -1,5 +1,6 @@
 use Rattle.std.proofs.Common.{subst}
-use Rattle.mail.proofs.Held.{Appends, appends_none, appends_more}
+use Rattle.mail.specs.Tables.{Appends}
+use Rattle.mail.proofs.Held.{appends_none, appends_more}
 use Rattle.grants.proofs.Gathered.{one_cc, no_cc, all_cc}
 use Rattle.grants.proofs.copies.append_list.Goals as goal
 
@@ -15,7 +16,7 @@ pub loop-m-preserved : goal.loop-m-preserved
 loop-m-preserved g c =
     subst (λ us. Appends c.args.table.now c.args.end us c.append-end.new.table c.append-end.result)
     (one_cc (g.S.PolicySource.meaning c.args.source.now) c.args.n c.loop-m.m c.in-Some.text.now c.in-Some.ensures)
-    (appends_more c.args.table.now c.args.end _ c.loop-m.table c.loop-m.end _ c.append-end.new.table c.append-end.result c.loop-m.auto.table c.loop-m.invariant c.append-end.ensures)
+    (appends_more c.args.table.now c.args.end _ c.loop-m.table c.loop-m.end _ c.append-end.new.table c.append-end.result c.loop-m.auto.table c.loop-m.invariant c.append-end.ensures.appends)
 
 -- a roll has no more texts than are read
 pub returns : goal.returns

@@ -1,5 +1,5 @@
 use Rattle.std.proofs.Common.{take}
-use Rattle.mail.proofs.Held.{Appends}
+use Rattle.mail.specs.Tables.{Appends}
 use Rattle.grants.specs.Rules.{entry_at}
 use Rattle.grants.proofs.copies.append_list.Given as goal
 

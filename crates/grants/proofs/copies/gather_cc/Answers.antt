@@ -1,6 +1,6 @@
 use Rattle.std.proofs.Common.{◌<◌, [], length, sym, subst, arith}
-use Rattle.mail.specs.Tables.{Holds, fitting}
-use Rattle.mail.proofs.Held.{Appends, holds-empty, appends_none, appends_more}
+use Rattle.mail.specs.Tables.{Appends}
+use Rattle.mail.proofs.Held.{holds-empty, appends_none, appends_more}
 use Rattle.grants.proofs.Gathered.{gathered_none, gathered_added, gathered_unmarked, gathered_ungiven, gathered_grant}
 use Rattle.grants.proofs.copies.gather_cc.Goals as goal
 use Rattle.grants.proofs.copies.gather_cc.Goals.{then-is_marked+then-rule_of, else-is_marked, else-is_marked-via-then-is_marked+else-rule_of, else-is_marked-via-else-is_marked}
@@ -29,7 +29,8 @@ loop-n-preserved g c =
 
 pub returns : goal.returns
 returns g c =
-    subst (λ us. Holds c.append_defaults.new.table c.append_defaults.result (fitting c.args.table.now us))
+    let all =
+    subst (λ us. Appends c.args.table.now 0 us c.append_defaults.new.table c.append_defaults.result)
     (gathered_grant c.args.pass c.args.named.now (g.S.PolicySource.meaning c.args.source.now) c.loop-n.n (omega arith))
-    (appends_more c.args.table.now 0 _ c.loop-n.table c.loop-n.end _ c.append_defaults.new.table c.append_defaults.result c.loop-n.auto.table c.loop-n.invariant c.append_defaults.ensures
-    [] (holds-empty c.args.table.now))
+    (appends_more c.args.table.now 0 _ c.loop-n.table c.loop-n.end _ c.append_defaults.new.table c.append_defaults.result c.loop-n.auto.table c.loop-n.invariant c.append_defaults.ensures) in
+    record { holds = all.holds [] (holds-empty c.args.table.now); rest = all.rest }

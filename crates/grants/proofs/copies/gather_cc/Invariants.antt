@@ -1,5 +1,5 @@
 use Rattle.std.proofs.Common.{take}
-use Rattle.mail.proofs.Held.{Appends}
+use Rattle.mail.specs.Tables.{Appends}
 use Rattle.grants.proofs.Gathered.{gathered}
 use Rattle.grants.proofs.copies.gather_cc.Given as goal
 

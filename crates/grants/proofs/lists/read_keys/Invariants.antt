@@ -1,5 +1,5 @@
 use Rattle.std.proofs.Common.{take}
-use Rattle.mail.proofs.Held.{Appends}
+use Rattle.mail.specs.Tables.{Appends}
 use Rattle.grants.specs.Rules.{keys_of}
 use Rattle.grants.proofs.lists.read_keys.Given as goal
 

@@ -1,6 +1,6 @@
 use Rattle.std.proofs.Common.{take}
 use Rattle.roll.specs.Views.{viewed}
-use Rattle.mail.proofs.Held.{Appends}
+use Rattle.mail.specs.Tables.{Appends}
 use Rattle.mail.proofs.read.read_roll.Given as goal
 
 abbrev pub invariant-loop-i : goal.invariant-loop-i
