@@ -1,6 +1,6 @@
 -- From the tables of a grant to whom it mails.
 use Rattle.std.proofs.Common.{◌≡◌, ℕ, ◌+◌, ◌-◌, ◌<◌, ◌≤◌, Bool, List, [], ◌++◌, map, length, get_or, take, sym, refl, ap, ◌∙◌, subst, arith}
-use Rattle.std.proofs.lemmas.List.{take_all, length-map, length-take-le}
+use Rattle.std.proofs.lemmas.List.{take_all}
 use Rattle.address.specs.Text.{Text}
 use Rattle.audience.specs.Rules as audience
 use Rattle.audience.specs.Due.{to_texts, cc_texts}
@@ -15,17 +15,13 @@ use Rattle.recipients.specs.Choices.{listed_by, to_marks}
 use Rattle.recipients.proofs.Mailings.{to_mailed, cc_mailed}
 use Rattle.recipients.proofs.People.{length-people, length_to, length_cc}
 use Rattle.email_router.specs.declared.chosen.Recipients.{Recipients}
+use Rattle.mail.proofs.Held.{held_length}
 use Rattle.email_router.specs.Actions.{sent_to}
 use Rattle.email_router.specs.Chosen.{Chosen, Tabled, individuals}
 
 -- ---- tables that are filled
 
 module _ (table : List Mailbox) (n : ℕ) (ts : List Text) (h : Holds table n ts) where
-  pub held_count : n ≡ length ts
-  held_count =
-      let w = h.within in
-      omega (arith, length-take-le n table w, length-map (take n table) text_in, ap length h.texts)
-
   pub held_short : ((k : ℕ) → length (get_or ts k []) < 65536) → Short (take n table)
   held_short short k = subst (λ (us : List Text). length (get_or us k []) < 65536) (sym h.texts) (short k)
 
@@ -42,7 +38,7 @@ module _ (keys : List Text) (m : Letter) (g : audience.Grant) (table : List Mail
       let b = individuals keys (letter m) g in
       let copies : texts r.added ≡ g.cc = ap (map text_in) t.added ∙ c.added.texts in
       let tos : r.to.takes.now ≡ to_marks keys (letter m) g b = t.to_takes ∙ ap (λ k. take (1 + k) ts) (sym (length_to m)) ∙ c.to in
-      let long : length m.people.now - (1 + m.to) + n ≡ length (letter m).cc + length g.cc = omega (arith, length_cc m, length-people m, held_count table n g.cc c.added) in
+      let long : length m.people.now - (1 + m.to) + n ≡ length (letter m).cc + length g.cc = omega (arith, length_cc m, length-people m, held_length table n g.cc c.added) in
       let ccs = t.cc_takes ∙ ap (λ k. take k cs) long ∙ c.cc in
       let to : mailed r.to m r.added ≡ to_texts (listed_by keys) (letter m) g = to_mailed keys m b g r.to r.added refl t.to_start tos in
       let copied : mailed r.cc m r.added ≡ cc_texts (listed_by keys) (letter m) g = cc_mailed keys m b g r.cc r.added copies refl t.cc_start ccs in
