@@ -1,13 +1,12 @@
 -- What stands between the angles, read on after the first of them as a text of its own.
-use Rattle.std.proofs.Common.{◌≡◌, ℕ, zero, suc, ◌+◌, ◌-◌, ◌<◌, true, false, cond, ◌&&◌, eqb, [], ◌∷◌, length, get_or, take, drop, Some, None, unwrap_or, sym, refl, ap, ◌∙◌, add-one, arith}
+use Rattle.std.proofs.Common.{◌≡◌, ℕ, zero, suc, ◌+◌, ◌<◌, true, false, cond, ◌&&◌, eqb, [], ◌∷◌, get_or, take, drop, Some, None, unwrap_or, sym, refl, ap, ◌∙◌, add-one, arith}
 use Rattle.std.specs.Option.{option_map}
-use Rattle.std.proofs.lemmas.List.{take_rest}
 use Rattle.std.proofs.lemmas.Bool.{eqb-true}
 use Rattle.address.specs.declared.scanner.Scanner.{Scanner}
 use Rattle.address.specs.declared.scanner.Scanner.TheVariants.{Outside, Quoted, Escaped}
 use Rattle.address.specs.Text.{Text, trimmed, first_place}
 use Rattle.address.specs.Quoted.{next, closes, unquoted_from, unquoted, first_outside}
-use Rattle.address.specs.Address.{angled_from, angled, sides_at}
+use Rattle.address.specs.Address.{angled_from, angled}
 use Rattle.address.proofs.Places.{first_place_is}
 
 -- reading begins anew after a byte that is not hidden
@@ -32,9 +31,6 @@ after_first c t i some e =
 abbrev pub part_of : Text → Text
 part_of t = unwrap_or (option_map trimmed (angled t)) t
 
-pub part_unangled : (t : Text) → None ≡ first_outside 60 t → t ≡ part_of t
-part_unangled t e = ap (λ o. unwrap_or (option_map trimmed (angled_from t o)) t) e
-
 -- i is the place of the first `<`, and rest is what follows
 module _ (t rest : Text) (i : ℕ) (at : Some i ≡ first_outside 60 t) (is : rest ≡ drop (i + 1) t) where
   part_by : part_of t ≡ unwrap_or (option_map trimmed (option_map (λ n. take n rest) (first_outside 62 rest))) t
@@ -48,7 +44,3 @@ module _ (t rest : Text) (i : ℕ) (at : Some i ≡ first_outside 60 t) (is : re
 
   pub part_angled : (n : ℕ) → Some n ≡ first_outside 62 rest → trimmed (take n rest) ≡ part_of t
   part_angled n e = ap (λ o. unwrap_or (option_map trimmed (option_map (λ n. take n rest) o)) t) e ∙ sym part_by
-
--- the two parts that the code cuts off beside a place
-pub sides_cut : (t : Text) (i : ℕ) → (take (i - 0) t, take (length t - (i + 1)) (drop (i + 1) t)) ≡ sides_at t i
-sides_cut t i = let upto : i - 0 ≡ i = omega arith in (λ k. (take (upto k) t, take_rest t (i + 1) k))

@@ -7,4 +7,5 @@ pub mod Places
 pub mod QuotedParts
 pub mod Quotes
 pub mod Trims
+pub mod Windows
 pub mod WorkedBares

@@ -1,13 +1,13 @@
 -- What the two passes over a text keep: one finds the quote that never closes, one what stands outside the quoted parts.
-use Rattle.std.proofs.Common.{◌≡◌, ℕ, zero, suc, ◌+◌, ◌-◌, ◌<◌, ◌≤◌, Bool, true, false, cond, not, ◌&&◌, eqb, [], ◌∷◌, length, get_or, drop, Some, None, Option, sym, refl, ap, ◌∙◌, arith}
+use Rattle.std.proofs.Common.{◌≡◌, ℕ, zero, suc, ◌+◌, ◌-◌, ◌<◌, ◌≤◌, Bool, true, false, cond, not, ◌&&◌, eqb, [], ◌∷◌, length, get_or, drop, Some, Option, sym, refl, ap, ◌∙◌, arith}
 use Rattle.std.specs.Option.{option_map}
-use Rattle.std.proofs.lemmas.List.{at_drop_more, at_drop_all}
-use Rattle.std.proofs.lemmas.Bool.{ne_eqb, eq-eqb, eqb-true, true≢false}
+use Rattle.std.proofs.lemmas.List.{at_drop_more}
+use Rattle.std.proofs.lemmas.Bool.{ne_eqb, eqb-true, true≢false}
 use Rattle.address.specs.declared.scanner.Scanner.{Scanner}
 use Rattle.address.specs.declared.scanner.Scanner.TheVariants.{Outside, Quoted, Escaped}
 use Rattle.address.specs.Text.{Text, first_place}
 use Rattle.address.specs.Quoted.{next, closes, unquoted_from, unquoted, first_outside, before_unclosed}
-use Rattle.address.proofs.Places.{from, from_zero, first_place_passed, first_place_here}
+use Rattle.address.proofs.Places.{from, from_zero, first_place_passed}
 
 -- ---- the first pass
 
@@ -36,14 +36,6 @@ module _ (t : Text) (s : Scanner) (i opened : ℕ) where
         | Quoted ↦ λ no. told_step (get_or t i 0) (drop (i + 1) t) Quoted i opened
         | Escaped ↦ λ no. told_step (get_or t i 0) (drop (i + 1) t) Escaped i opened
       ]) ne
-
-  pub told_end_outside : length t ≤ i → s ≡ Outside → told (drop i t) s i opened ≡ i
-  told_end_outside h e = at_drop_all (λ l. told l s i opened) t i h ∙ rw e (omega arith)
-
-  pub told_end_inside : length t ≤ i → (s ≡ Outside → ⊥) → told (drop i t) s i opened ≡ opened
-  told_end_inside h ne =
-      at_drop_all (λ l. told l s i opened) t i h
-      ∙ (elim s as (λ v. (v ≡ Outside → ⊥) → told [] v i opened ≡ opened) [ Outside ↦ λ no. absurd (no refl) | Quoted ↦ λ no. refl | Escaped ↦ λ no. refl ]) ne
 
 -- ---- from a quote that never closes on, nothing is hidden
 
@@ -120,16 +112,6 @@ module _ (c : ℕ) where
         ∙ ap (λ n. from i (place (seen_from (get_or t i 0 ∷ drop (i + 1) t) s n))) e
         ∙ first_place_passed (λ b. eqb b c) i _ _ (ne_eqb _ c ne)
         ∙ ap (λ n. from (i + 1) (place (seen_from (drop (i + 1) t) s n))) f
-
-    stops : (b : ℕ) (l : Text) (n : ℕ) → s ≡ Outside → b ≡ c → from i (place (seen_from (b ∷ l) s n)) ≡ Some i
-    stops b l zero e f = rw e (first_place_here (λ x. eqb x c) i b _ (eq-eqb b c f))
-    stops b l (suc n) e f = rw e (first_place_here (λ x. eqb x c) i b _ (eq-eqb b c f))
-
-    pub seen_found : i < length t → s ≡ Outside → get_or t i 0 ≡ c → from i (place (seen_from (drop i t) s (p - i))) ≡ Some i
-    seen_found h e f = at_drop_more (λ l. from i (place (seen_from l s (p - i)))) t i 0 h ∙ stops _ _ _ e f
-
-    pub seen_end : length t ≤ i → from i (place (seen_from (drop i t) s (p - i))) ≡ None
-    seen_end h = at_drop_all (λ l. from i (place (seen_from l s (p - i)))) t i h
 
 -- a byte inside is not c, and one outside only if it is
 pub unseen : (c b : ℕ) (s : Scanner) → 0 < c → (s ≡ Outside → b ≡ c → ⊥) → seen s b ≡ c → ⊥

@@ -18,7 +18,7 @@ pub fn address_part(text: &[u8]) -> &[u8]
     let Some(n) = find_outside(rest, b'>') else {
         return whole;
     };
-    trim(&rest[0..n])
+    trim(&rest[..n])
 }
 
 /// Whether two texts have the same bare.
@@ -32,18 +32,13 @@ pub fn same_bare(a: &[u8], b: &[u8]) -> bool
 pub fn sides(part: &[u8]) -> Option<(&[u8], &[u8])>
     ensures { option_map (λ s. (s.0.now, s.1.now)) result ≡ sides_of part.now }
 {
-    match find_outside(part, b'@') {
-        Some(i) => Some((&part[0..i], &part[i + 1..])),
-        None => None,
-    }
+    let at = find_outside(part, b'@')?;
+    Some((&part[..at], &part[at + 1..]))
 }
 
 /// What follows the first `@` outside the quoted parts.
 pub fn domain(part: &[u8]) -> Option<&[u8]>
     ensures { option_map (λ x. x.now) result ≡ domain_of part.now }
 {
-    match find_outside(part, b'@') {
-        Some(i) => Some(&part[i + 1..]),
-        None => None,
-    }
+    sides(part).map(|(_, domain)| domain)
 }

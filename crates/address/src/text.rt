@@ -1,5 +1,5 @@
 // Texts: which bytes one may hold, trimming, one text in another.
-ghost use Rattle.std.specs.Prelude.{◌≡◌, ◌-◌, take, drop};
+ghost use Rattle.std.specs.Prelude.{◌≡◌, ◌-◌, not, position, take, drop};
 ghost use Rattle.address.specs.Text.{blank, trimmed, unindented, unpadded, small, holds};
 ghost use Rattle.address.specs.Text.{text_byte, text_fault};
 
@@ -12,13 +12,14 @@ pub struct TextFault {
 fn is_text_byte(b: u8) -> bool
     ensures { result ≡ text_byte b }
 {
-    b == b'\t' || (b' ' <= b && b <= b'~')
+    matches!(b, b'\t' | b' '..=b'~')
 }
 
-fn is_blank(b: u8) -> bool
+/// Whether a byte is tab or space.
+pub fn is_blank(b: u8) -> bool
     ensures { result ≡ blank b }
 {
-    b == b'\t' || b == b' '
+    matches!(b, b'\t' | b' ')
 }
 
 /// Refuses the first byte that no text may hold.
@@ -32,32 +33,38 @@ pub fn check_text(text: &[u8]) -> Result<(), TextFault>
 pub fn check_text_within(bytes: &[u8], from: usize, to: usize) -> Result<(), TextFault>
     ensures { result ≡ text_fault from (take (to - from) (drop from bytes.now)) }
 {
-    for i in from..to.min(bytes.len()) {
-        if !is_text_byte(bytes[i]) {
-            return Err(TextFault { place: i });
-        }
+    match first_foreign(between(bytes, from, to)) {
+        Some(i) => Err(TextFault { place: from + i }),
+        None => Ok(()),
     }
-    Ok(())
+}
+
+/// The bytes from one place up to another, as far as there are any.
+pub fn between(bytes: &[u8], from: usize, to: usize) -> &[u8]
+    ensures { result.now ≡ take (to - from) (drop from bytes.now) }
+{
+    bytes.get(from..to.min(bytes.len())).unwrap_or(&[])
+}
+
+// The place of the first byte that no text may hold.
+fn first_foreign(text: &[u8]) -> Option<usize>
+    ensures { result ≡ position (λ b. not (text_byte b)) text.now }
+{
+    text.iter().position(|b| !is_text_byte(*b))
 }
 
 fn trim_start(text: &[u8]) -> &[u8]
     ensures { result.now ≡ unindented text.now }
 {
-    let mut i = 0;
-    while i < text.len() && is_blank(text[i]) {
-        i += 1;
-    }
-    &text[i..]
+    let blanks = text.iter().take_while(|b| is_blank(**b)).count();
+    &text[blanks..]
 }
 
 fn trim_end(text: &[u8]) -> &[u8]
     ensures { result.now ≡ unpadded text.now }
 {
-    let mut n = text.len();
-    while n > 0 && is_blank(text[n - 1]) {
-        n -= 1;
-    }
-    &text[0..n]
+    let blanks = text.iter().rev().take_while(|b| is_blank(**b)).count();
+    &text[..text.len() - blanks]
 }
 
 /// The text without the blanks at its ends.
@@ -71,14 +78,8 @@ pub fn trim(text: &[u8]) -> &[u8]
 pub fn contains_small(text: &[u8], part: &[u8]) -> bool
     ensures { result ≡ holds (small text.now) (small part.now) }
 {
-    let n = part.len();
-    if text.len() < n {
-        return false;
-    }
-    for i in 0..text.len() - n + 1 {
-        if text[i..i + n].eq_ignore_ascii_case(part) {
-            return true;
-        }
-    }
-    false
+    part.is_empty()
+        || text
+            .windows(part.len())
+            .any(|here| here.eq_ignore_ascii_case(part))
 }

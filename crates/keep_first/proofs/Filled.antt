@@ -1,7 +1,7 @@
 -- A loop over i that puts into the next slot what some of its turns give.
 use Rattle.std.proofs.Common.{◌≡◌, ℕ, ◌+◌, ◌<◌, ◌≤◌, List, [], ◌∷◌, ◌++◌, length, take, drop, set, Some, None, Option, sym, refl, ap, ◌∙◌, arith}
 use Rattle.std.specs.Option.{option_to_list}
-use Rattle.std.proofs.lemmas.List.{append-nil, take-append-drop, length-take-le, take_more_set, drop-set-lt, drop-drop}
+use Rattle.std.proofs.lemmas.List.{append-nil, take_more_set, drop-set-lt, drop-drop}
 
 -- The slots began as start: the first k now hold what the turns below i gave, F i, and the others are as they were.
 pub record Filled (F : ℕ → List ℕ) (start slots : List ℕ) (k i : ℕ) : Type 0 where
@@ -27,11 +27,3 @@ module _ (F : ℕ → List ℕ) {start slots : List ℕ} {k i : ℕ} (f : Filled
       rest = f.rest;
       behind = let b = f.behind in omega arith;
     }
-
-  pub filled-length : k ≤ length slots → k ≡ length (F i)
-  filled-length h = sym (length-take-le k slots h) ∙ ap length f.front
-
-  pub filled_all : k ≤ length slots → slots ≡ F i ++ drop (length (F i)) start
-  filled_all h =
-      sym (take-append-drop k slots) ∙ ap (λ xs. xs ++ drop k slots) f.front ∙ ap (λ xs. F i ++ xs) f.rest
-      ∙ ap (λ n. F i ++ drop n start) (filled-length h)

@@ -1,36 +1,16 @@
 -- The places of a roll that are kept, by sameness and preference.
-use Rattle.std.proofs.Common.{◌≡◌, ℕ, zero, suc, ◌+◌, ◌<◌, ◌≤◌, Bool, true, false, cond, not, ◌&&◌, List, [], ◌∷◌, ◌++◌, map, length, Some, None, sym, refl, ap, ◌∙◌, subst, inl, inr, zero-add, add-one, arith}
-use Rattle.std.specs.List.{range_with_len, flat_map}
+use Rattle.std.proofs.Common.{◌≡◌, ℕ, ◌+◌, ◌<◌, ◌≤◌, Bool, true, false, cond, not, ◌&&◌, List, [], ◌∷◌, ◌++◌, map, length, Some, None, Option, IfSome, is_some, sym, refl, ap, ◌∙◌, subst, inl, inr, arith}
+use Rattle.std.specs.List.{range_with_len}
 use Rattle.std.specs.Option.{option_to_list}
 use Rattle.std.proofs.lemmas.List.FromFn.{length-range_with_len}
-use Rattle.std.proofs.lemmas.List.{length-map, map-append, flat_map_more}
-use Rattle.std.proofs.lemmas.Bool.{cases_lt, cases_Bool, and_parts, and_left, and_right, and_from, cond-true, cond-false}
+use Rattle.std.proofs.lemmas.List.{length-map, map-append}
+use Rattle.std.proofs.lemmas.Bool.{cases_lt, cases_Bool, and_parts, not-true, cond-true, cond-false}
 use Rattle.keep_first.specs.Keep.{some, first_or, firsts, stand_in}
 use Rattle.keep_first.specs.Model.{Classes, Equivalence, places_below, places_between, places, has_earlier, is_first, kept, stand_in_from, standing_at}
 use Rattle.keep_first.proofs.Members.{In, in_left, some_weaker}
-use Rattle.keep_first.proofs.Firsts.{part_all, part_kept, part_length, firsts_part, firsts_within}
-use Rattle.keep_first.proofs.StandsIn.{first_or_cases, first_or_none, first_or-append, stand_in_within, kept_for}
-use Rattle.keep_first.proofs.Places.{left, left_none, left_at, left_past, counting_push, in_places_below, places_below_split, firsts_more}
-
--- The search for the first that passes, or else d.
-module _ (takes : ℕ → Bool) where
-  module _ (p : ℕ → Bool) (d all j n : ℕ) (so_far : first_or p d (left takes j n) ≡ all) where
-    pub first_goes_on : j < n → (takes j && p j) ≡ false → first_or p d (left takes (j + 1) n) ≡ all
-    unfolding first_or
-    first_goes_on h miss = elim (cases_Bool (takes j)) [
-      | inl t ↦ let e : p j ≡ false = rw t at miss in sym (ap (first_or p d) (left_at takes j n h t) ∙ cond-false (p j) j (first_or p d (left takes (j + 1) n)) e) ∙ so_far
-      | inr f ↦ sym (ap (first_or p d) (left_past takes j n h f)) ∙ so_far
-    ]
-
-    pub first_hit : j < n → true ≡ (takes j && p j) → j ≡ all
-    unfolding first_or
-    first_hit h hit =
-        let (t, e) = and_parts (takes j) (p j) (sym hit) in
-        sym (ap (first_or p d) (left_at takes j n h t) ∙ cond-true (p j) j (first_or p d (left takes (j + 1) n)) e) ∙ so_far
-
-    pub first_ends : n ≤ j → d ≡ all
-    unfolding first_or
-    first_ends h = sym (ap (first_or p d) (left_none takes j n h)) ∙ so_far
+use Rattle.keep_first.proofs.Firsts.{part_all, part_kept, part_length, firsts_part}
+use Rattle.keep_first.proofs.StandsIn.{first_or_cases, first_or_none, first_or-append}
+use Rattle.keep_first.proofs.Places.{in_places_below, places_below_split, places_between_none, firsts_more}
 
 module _ (c : Classes) (preferred : ℕ → Bool) where
   -- what is kept of the places below n
@@ -48,18 +28,6 @@ module _ (c : Classes) (preferred : ℕ → Bool) where
       ∙ map-append f (firsts c.same (places_below c n)) (cond (is_first c n) (n ∷ []) [])
       ∙ ap (λ l. kept_below n ++ l) (elim (is_first c n) as (λ b. map f (cond b (n ∷ []) []) ≡ option_to_list (cond b (Some (f n)) None)) [ true ↦ refl | false ↦ refl ])
 
-  gathered_below : (n : ℕ) → flat_map (λ i. option_to_list (standing_at c preferred i)) (range_with_len 0 n) ≡ kept_below n
-  gathered_below zero = kept_below_none
-  gathered_below (suc n) =
-      let g : ℕ → List ℕ = λ i. option_to_list (standing_at c preferred i) in
-      let e : range_with_len 0 (n + 1) ≡ range_with_len 0 n ++ n ∷ [] = rw zero-add at (counting_push 0 n) in
-      let P : ℕ → Type 0 = λ k. flat_map g (range_with_len 0 k) ≡ kept_below k in
-      subst P (add-one n) (ap (flat_map g) e ∙ sym (flat_map_more g [] (range_with_len 0 n) n) ∙ ap (λ l. l ++ g n) (gathered_below n) ∙ sym (kept_below_more n))
-
-  -- what is kept is what stands at each place in turn
-  pub gathered : flat_map (λ i. option_to_list (standing_at c preferred i)) (range_with_len 0 c.count) ≡ kept c preferred
-  gathered = gathered_below c.count
-
   -- where no place before i is the same, the search may begin at i
   pub stand_in_from-first : Equivalence c.same → (i : ℕ) → has_earlier c i ≡ false → stand_in_from c preferred i ≡ stand_in c.same preferred (places c) i
   unfolding stand_in first_or
@@ -72,24 +40,15 @@ module _ (c : Classes) (preferred : ℕ → Bool) where
         | inr h ↦
             let short : some p (places c) ≡ false =
             some_weaker p p (places c) (places_below c i) (λ j k e. (subst (In j) (sym (places_below_split c c.count i h)) (in_left j (places c) (places_between c c.count i) k), e)) before in
-            ap (first_or p i) (left_none c.takes i c.count h) ∙ sym (first_or_none p i (places c) short)
+            ap (first_or p i) (places_between_none c i c.count h) ∙ sym (first_or_none p i (places c) short)
       ]
 
-  pub standing_out : (i : ℕ) → false ≡ c.takes i → None ≡ standing_at c preferred i
-  standing_out i e = sym (cond-false (is_first c i) _ _ (and_left (c.takes i) _ (sym e)))
-
-  pub standing_later : (i : ℕ) → true ≡ has_earlier c i → None ≡ standing_at c preferred i
-  standing_later i e = sym (cond-false (is_first c i) _ _ (and_right (c.takes i) _ (ap not (sym e))))
-
-  pub standing_first : Equivalence c.same → (i r : ℕ) → true ≡ c.takes i → false ≡ has_earlier c i → r ≡ stand_in_from c preferred i → Some r ≡ standing_at c preferred i
-  standing_first law i r part none at =
-      ap Some (at ∙ stand_in_from-first law i (sym none)) ∙ sym (cond-true (is_first c i) _ _ (and_from (c.takes i) _ (sym part) (ap not (sym none))))
-
-  -- what is kept are places of the roll that take part
-  pub kept_within : (x : ℕ) → In x (kept c preferred) → (x < c.count) × (c.takes x ≡ true)
-  kept_within x i =
-      let (y, j, e) = kept_for c.same preferred (places c) x i in
-      in_places_below c x c.count (subst (λ z. In z (places c)) e (stand_in_within c.same preferred (places c) y (firsts_within c.same y (places c) j)))
+  -- an answer that is there where place i is first, and then is what stands there
+  pub standing_is : Equivalence c.same → (i : ℕ) (r : Option ℕ) → is_some r ≡ is_first c i → IfSome r (λ k. k ≡ stand_in_from c preferred i) → r ≡ standing_at c preferred i
+  standing_is law i None e at = sym (cond-false (is_first c i) _ _ (sym e))
+  standing_is law i (Some k) e at =
+      let (part, none) = and_parts (c.takes i) (not (has_earlier c i)) (sym e) in
+      ap Some (at ∙ stand_in_from-first law i (not-true (has_earlier c i) none)) ∙ sym (cond-true (is_first c i) _ _ (sym e))
 
   pub length-kept : length (kept c preferred) ≤ c.count
   length-kept =

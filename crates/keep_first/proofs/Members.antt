@@ -1,6 +1,6 @@
 -- Membership by clauses, and what filters, maps and `some` do to it.
-use Rattle.std.proofs.Common.{◌≡◌, zero, suc, Bool, true, false, not, ◌⊎◌, List, [], ◌∷◌, ◌++◌, map, filter, sym, refl, ap, ◌∙◌, inl, inr, arith}
-use Rattle.std.specs.List.{ContainsAt as Has, AllByRecursion}
+use Rattle.std.proofs.Common.{◌≡◌, zero, suc, Bool, true, false, cond, not, ◌&&◌, ◌||◌, ◌⊎◌, List, [], ◌∷◌, ◌++◌, map, filter, sym, refl, ap, ◌∙◌, inl, inr, arith}
+use Rattle.std.specs.List.{ContainsAt as Has, AllByRecursion, list_any}
 use Rattle.std.proofs.lemmas.Bool.{cases_Bool, both_ways, true≢false, not-true, or_cases, or_left, or_right, cond_both}
 use Rattle.std.proofs.ByRecursion.{all-has, All-weaker}
 use Rattle.keep_first.specs.Keep.{some}
@@ -79,6 +79,20 @@ module _ {X : Type 0} where
 
   pub some-kept_not : (p : X → Bool) (xs : List X) → some p (filter (λ x. not (p x)) xs) ≡ false
   some-kept_not p xs = not_some p (filter (λ x. not (p x)) xs) (λ x i e. both_ways (p x) (not-true (p x) (kept_in (λ x. not (p x)) x xs i).1) e)
+
+  -- `some` is what `any` gives
+  pub some_is_any : (p : X → Bool) (xs : List X) → some p xs ≡ list_any p xs
+  unfolding some
+  some_is_any p [] = refl
+  some_is_any p (x ∷ xs) = ap (λ b. p x || b) (some_is_any p xs)
+
+  -- `any` over all, with a test that also asks whether the element is kept
+  pub any_kept : (keep p : X → Bool) (xs : List X) → list_any (λ x. keep x && p x) xs ≡ some p (filter keep xs)
+  unfolding some
+  any_kept keep p [] = refl
+  any_kept keep p (x ∷ xs) =
+      let later = any_kept keep p xs in
+      elim (keep x) as (λ k. ((k && p x) || list_any (λ y. keep y && p y) xs) ≡ some p (cond k (x ∷ filter keep xs) (filter keep xs))) [ true ↦ ap (λ b. p x || b) later | false ↦ later ]
 
 module _ {X Y : Type 0} (f : X → Y) where
   pub in_map : (x : X) (xs : List X) → In x xs → In (f x) (map f xs)

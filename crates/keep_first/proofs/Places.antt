@@ -1,11 +1,11 @@
 -- The places of a roll one after another, by sameness alone.
-use Rattle.std.proofs.Common.{◌≡◌, ℕ, zero, suc, ◌+◌, ◌-◌, ◌<◌, ◌≤◌, Bool, true, false, cond, not, ◌&&◌, ◌||◌, List, [], ◌∷◌, ◌++◌, filter, sym, refl, ap, ◌∙◌, inl, inr, add-zero, zero-add, arith}
+use Rattle.std.proofs.Common.{◌≡◌, ℕ, zero, suc, ◌+◌, ◌-◌, ◌<◌, ◌≤◌, Bool, true, false, cond, not, List, [], ◌∷◌, ◌++◌, filter, sym, refl, ap, ◌∙◌, inl, inr, add-zero, zero-add, arith}
 use Rattle.std.specs.List.{range_with_len}
 use Rattle.std.proofs.lemmas.List.FromFn.{map-range_with_len_more}
 use Rattle.std.proofs.lemmas.List.Elements.{filter-append}
 use Rattle.std.proofs.lemmas.List.{append-nil, map-id}
-use Rattle.std.proofs.lemmas.Bool.{cases_Bool, and_parts, or_left, cond-true, cond-false}
-use Rattle.keep_first.specs.Keep.{some, firsts}
+use Rattle.std.proofs.lemmas.Bool.{cases_Bool}
+use Rattle.keep_first.specs.Keep.{firsts}
 use Rattle.keep_first.specs.Model.{Classes, places_below, places_between, has_earlier, is_first}
 use Rattle.keep_first.proofs.Members.{In, kept_in}
 use Rattle.keep_first.proofs.Firsts.{firsts_push}
@@ -30,42 +30,10 @@ in_counting x a zero i = absurd i
 in_counting x a (suc n) (inl e) = (omega arith, omega arith)
 in_counting x a (suc n) (inr i) = let h = in_counting x (a + 1) n i in (omega (arith, h.0), omega (arith, h.1))
 
--- A search of the places from j up to n that take part: what is left of it decides, and `all` is what it is to find.
-module _ (takes : ℕ → Bool) where
-  abbrev pub left : ℕ → ℕ → List ℕ
-  left j n = filter takes (range_with_len j (n - j))
-
-  pub left_more : (j n : ℕ) → j < n → left j n ≡ cond (takes j) (j ∷ left (j + 1) n) (left (j + 1) n)
-  left_more j n h = let e : n - j ≡ suc (n - (j + 1)) = omega arith in ap (λ m. filter takes (range_with_len j m)) e
-
-  pub left_none : (j n : ℕ) → n ≤ j → left j n ≡ []
-  left_none j n h = let e : n - j ≡ 0 = omega arith in ap (λ m. filter takes (range_with_len j m)) e
-
-  pub left_at : (j n : ℕ) → j < n → takes j ≡ true → left j n ≡ j ∷ left (j + 1) n
-  left_at j n h t = left_more j n h ∙ cond-true (takes j) (j ∷ left (j + 1) n) (left (j + 1) n) t
-
-  pub left_past : (j n : ℕ) → j < n → takes j ≡ false → left j n ≡ left (j + 1) n
-  left_past j n h f = left_more j n h ∙ cond-false (takes j) (j ∷ left (j + 1) n) (left (j + 1) n) f
-
-  module _ (p : ℕ → Bool) (all : Bool) (j n : ℕ) (so_far : some p (left j n) ≡ all) where
-    pub some_goes_on : j < n → (takes j && p j) ≡ false → some p (left (j + 1) n) ≡ all
-    unfolding some
-    some_goes_on h miss = elim (cases_Bool (takes j)) [
-      | inl t ↦ let e : p j ≡ false = rw t at miss in sym (ap (some p) (left_at j n h t) ∙ ap (λ b. b || some p (left (j + 1) n)) e) ∙ so_far
-      | inr f ↦ sym (ap (some p) (left_past j n h f)) ∙ so_far
-    ]
-
-    pub some_hit : j < n → true ≡ (takes j && p j) → true ≡ all
-    unfolding some
-    some_hit h hit =
-        let (t, e) = and_parts (takes j) (p j) (sym hit) in
-        sym (ap (some p) (left_at j n h t) ∙ or_left (p j) (some p (left (j + 1) n)) e) ∙ so_far
-
-    pub some_ends : n ≤ j → false ≡ all
-    unfolding some
-    some_ends h = sym (ap (some p) (left_none j n h)) ∙ so_far
-
 module _ (c : Classes) where
+  pub places_between_none : (i n : ℕ) → n ≤ i → places_between c i n ≡ []
+  places_between_none i n h = let e : n - i ≡ 0 = omega arith in ap (λ m. filter c.takes (range_with_len i m)) e
+
   pub places_below_push : (n : ℕ) → places_below c (n + 1) ≡ places_below c n ++ cond (c.takes n) (n ∷ []) []
   places_below_push n = ap (filter c.takes) (rw zero-add at (counting_push 0 n)) ∙ filter-append c.takes (range_with_len 0 n) (n ∷ [])
 

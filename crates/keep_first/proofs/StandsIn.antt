@@ -1,6 +1,6 @@
 -- What preference adds: the one that stands in at the place of a first.
-use Rattle.std.proofs.Common.{◌≡◌, Bool, true, false, ◌&&◌, ◌||◌, ◌⊎◌, List, [], ◌∷◌, ◌++◌, sym, refl, ap, ◌∙◌, subst, inl, inr}
-use Rattle.std.specs.List.{ContainsAt as Has}
+use Rattle.std.proofs.Common.{◌≡◌, Bool, true, false, cond, filter, Some, unwrap_or, ◌&&◌, ◌||◌, ◌⊎◌, List, [], ◌∷◌, ◌++◌, sym, refl, ap, ◌∙◌, subst, inl, inr}
+use Rattle.std.specs.List.{ContainsAt as Has, find}
 use Rattle.std.proofs.lemmas.Bool.{or_from, or_parts, and_parts, and_from, cond_both, cond-false}
 use Rattle.keep_first.specs.Keep.{some, first_or, firsts, stand_in, keep_first}
 use Rattle.keep_first.specs.Model.{Equivalence}
@@ -16,6 +16,17 @@ module _ {X : Type 0} (p : X → Bool) (d : X) where
       cond_both (p x) x (first_or p d xs) (λ r. ((r ≡ d) × ((p x || some p xs) ≡ false)) ⊎ (In r (x ∷ xs) × (p r ≡ true)))
       (λ t. inr (inl refl, t))
       (λ f. elim (first_or_cases xs) [ inl h ↦ inl (h.0, or_from (p x) (some p xs) f h.1) | inr h ↦ inr (inr h.0, h.1) ])
+
+  -- `find` over all, with a test that also asks whether the element is kept
+  pub find_kept : (keep : X → Bool) (xs : List X) → unwrap_or (find (λ x. keep x && p x) xs) d ≡ first_or p d (filter keep xs)
+  unfolding first_or
+  find_kept keep [] = refl
+  find_kept keep (x ∷ xs) =
+      let later = find_kept keep xs in
+      elim (keep x) as (λ k. unwrap_or (cond (k && p x) (Some x) (find (λ y. keep y && p y) xs)) d ≡ first_or p d (cond k (x ∷ filter keep xs) (filter keep xs))) [
+        | true ↦ elim (p x) as (λ b. unwrap_or (cond b (Some x) (find (λ y. keep y && p y) xs)) d ≡ cond b x (first_or p d (filter keep xs))) [ true ↦ refl | false ↦ later ]
+        | false ↦ later
+      ]
 
   pub first_or_none : (xs : List X) → some p xs ≡ false → first_or p d xs ≡ d
   unfolding first_or some

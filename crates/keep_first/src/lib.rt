@@ -23,12 +23,7 @@ fn is_match<C, S, R: Roll<C, S>>(roll: &R, texts: &C, source: &S, i: usize, j: u
 fn has_earlier<C, S, R: Roll<C, S>>(roll: &R, texts: &C, source: &S, i: usize) -> bool
     ensures { result ≡ has_earlier (R.classes roll.now texts.now source.now) i }
 {
-    for j in 0..i {
-        if is_match(roll, texts, source, i, j) {
-            return true;
-        }
-    }
-    false
+    (0..i).any(|j| is_match(roll, texts, source, i, j))
 }
 
 // Whether place i takes part and is the first of its class.
@@ -42,13 +37,9 @@ fn is_first<C, S, R: Roll<C, S>>(roll: &R, texts: &C, source: &S, i: usize) -> b
 pub fn count<C, S, R: Roll<C, S>>(roll: &R, texts: &C, source: &S) -> usize
     ensures { result ≡ length (kept (R.classes roll.now texts.now source.now) (R.preferred roll.now texts.now source.now)) }
 {
-    let mut firsts = 0;
-    for i in 0..roll.len(texts, source) {
-        if is_first(roll, texts, source, i) {
-            firsts += 1;
-        }
-    }
-    firsts
+    (0..roll.len(texts, source))
+        .filter(|i| is_first(roll, texts, source, *i))
+        .count()
 }
 
 // Whether place j takes part, is the same as i and is preferred.
@@ -64,12 +55,9 @@ fn may_stand<C, S, R: Roll<C, S>>(roll: &R, texts: &C, source: &S, i: usize, j: 
 fn stand_in<C, S, R: Roll<C, S>>(roll: &R, texts: &C, source: &S, i: usize) -> usize
     ensures { result ≡ stand_in_from (R.classes roll.now texts.now source.now) (R.preferred roll.now texts.now source.now) i }
 {
-    for j in i..roll.len(texts, source) {
-        if may_stand(roll, texts, source, i, j) {
-            return j;
-        }
-    }
-    i
+    (i..roll.len(texts, source))
+        .find(|j| may_stand(roll, texts, source, i, *j))
+        .unwrap_or(i)
 }
 
 /// The place of what is kept at place `i`: nothing where `i` takes no part or is not the first of its class.
@@ -77,13 +65,7 @@ fn stand_in<C, S, R: Roll<C, S>>(roll: &R, texts: &C, source: &S, i: usize) -> u
 pub fn standing<C, S, R: Roll<C, S>>(roll: &R, texts: &C, source: &S, i: usize) -> Option<usize>
     ensures { result ≡ standing_at (R.classes roll.now texts.now source.now) (R.preferred roll.now texts.now source.now) i }
 {
-    if !roll.takes_part(texts, source, i) {
-        return None;
-    }
-    if has_earlier(roll, texts, source, i) {
-        return None;
-    }
-    Some(stand_in(roll, texts, source, i))
+    is_first(roll, texts, source, i).then(|| stand_in(roll, texts, source, i))
 }
 
 /// Writes the places that are kept into the first slots, and returns how many they are. Refused, with the slots as
@@ -98,13 +80,11 @@ pub fn keep_first<C, S, R: Roll<C, S>>(
     ensures state { slots.new ≡ kept_slots (R.classes roll.now texts.now source.now) (R.preferred roll.now texts.now source.now) slots.old }
 {
     let count = roll.len(texts, source);
-    if count > slots.len() {
-        return None;
-    }
-    if count > 65536 {
+    if count > slots.len() || count > 65536 {
         return None;
     }
     let mut filled = 0;
+    // by number: the slots keep the numbers of the items
     for i in 0..count {
         if let Some(place) = standing(roll, texts, source, i) {
             slots[filled] = place as u16;

@@ -14,11 +14,8 @@ struct Mail<'a> {
 fn byte(mail: &Mail<'_>, i: usize, k: usize) -> u8
     ensures { result ≡ slice_index (slice_index_or (map (λ t. t.now) mail.now.to.now) i []) k }
 {
-    if i >= mail.to.len() {
-        return 0;
-    }
-    let text = mail.to[i];
-    if k < text.len() { text[k] } else { 0 }
+    let byte = mail.to.get(i).and_then(|text| text.get(k));
+    byte.copied().unwrap_or(0)
 }
 
 // Texts with the same initial are the same, in whatever case, and one that has `<` after one letter and a blank is preferred.
@@ -57,11 +54,7 @@ struct Numbers<'a> {
 fn number(numbers: &Numbers<'_>, i: usize) -> u32
     ensures { result ≡ slice_index numbers.now.all.now i }
 {
-    if i < numbers.all.len() {
-        numbers.all[i]
-    } else {
-        0
-    }
+    numbers.all.get(i).copied().unwrap_or(0)
 }
 
 fn remainder(n: u32, by: u32) -> u32

@@ -1,6 +1,7 @@
 -- Texts read one after another.
 use Rattle.std.proofs.Common.{◌≡◌, ℕ, zero, suc, ◌+◌, ◌-◌, ◌<◌, ◌≤◌, Bool, true, false, cond, List, [], ◌∷◌, length, take, drop, Some, None, Ok, Err, Option, Result, sym, refl, ap, ◌∙◌, arith}
 use Rattle.std.specs.List.{slice_get}
+use Rattle.std.specs.Option.{option_map}
 use Rattle.std.proofs.lemmas.List.{length-take-le, length-drop, drop-drop}
 use Rattle.std.proofs.lemmas.Option.{slice_get_past}
 use Rattle.std.proofs.lemmas.Bool.{cond_both, leb-true}
@@ -12,13 +13,6 @@ use Rattle.roll.specs.Ends.{word_at, there, read_word}
 use Rattle.roll.specs.Reading.{read_text, follow, texts_from, texts_at, carried, texts_fault}
 
 -- the count
-
-pub word_some : (bs : List ℕ) (a n : ℕ) → Some n ≡ read_word bs a → (n ≡ word_at bs a) × (a + 2 ≤ length bs)
-word_some bs a n =
-    let P : Option ℕ → Type 0 = λ o. Some n ≡ o → (n ≡ word_at bs a) × (a + 2 ≤ length bs) in
-    cond_both (there bs a 2) (Some (word_at bs a)) None P
-    (λ t e. (cc, leb-true (a + 2) (length bs) t))
-    (λ t e. let z : ◌≡◌ {A = ℕ} 0 1 = cc in absurd (omega arith))
 
 pub texts_counted : (bs : List ℕ) (a n : ℕ) → Some n ≡ read_word bs a → texts_at bs a ≡ texts_from n (drop (a + 2) bs)
 texts_counted bs a n =
@@ -93,6 +87,10 @@ module _ (n i : ℕ) (bs : List ℕ) where
   unfolding texts_from
   left_all h = let e : n - i ≡ 0 = omega arith in ap (λ (k : ℕ). texts_from k bs) e
 
+follow_first : (o : Option (Text × List ℕ)) (next : List ℕ → List Text) → option_map (λ p. p.0) o ≡ slice_get (follow o next) 0
+follow_first None next = refl
+follow_first (Some p) next = refl
+
 -- text m
 
 pub nth_beyond : (bs : List ℕ) (a n m : ℕ) → Some n ≡ read_word bs a → n ≤ m → slice_get (texts_at bs a) m ≡ None
@@ -108,10 +106,10 @@ module _ (n m i : ℕ) (bs : List ℕ) (below : m < n) {all : Option Text} (inv 
   pub nth_stop : i ≤ m → None ≡ read_text bs → None ≡ all
   nth_stop h e = rw (left_none n i bs (omega arith) e) at inv
 
-  pub nth_here : (t more : List ℕ) → i ≡ m → Some (t, more) ≡ read_text bs → Some t ≡ all
-  nth_here t more h e =
+  pub nth_here : i ≡ m → option_map (λ p. p.0) (read_text bs) ≡ all
+  nth_here e =
       let q : m - i ≡ 0 = omega arith in
-      rw (q, left_some n i bs t more (omega arith) e) at inv
+      follow_first (read_text bs) (texts_from (n - (i + 1))) ∙ rw (q, left_more n i bs (omega arith)) at inv
 
 -- the check of text bytes
 

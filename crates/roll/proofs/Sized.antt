@@ -1,5 +1,5 @@
 -- Packed texts and their length, one text after another.
-use Rattle.std.proofs.Common.{◌≡◌, ℕ, zero, suc, ◌+◌, ◌*◌, ◌<◌, ◌≤◌, Bool, true, false, cond, ltb, List, [], ◌∷◌, ◌++◌, map, length, get_or, take, drop, Some, None, Ok, Err, Option, Result, sym, refl, ap, ◌∙◌, arith}
+use Rattle.std.proofs.Common.{◌≡◌, ℕ, zero, suc, ◌+◌, ◌*◌, ◌<◌, ◌≤◌, Bool, true, false, cond, ltb, List, [], ◌∷◌, ◌++◌, length, get_or, take, drop, Some, None, Ok, Err, Option, Result, sym, refl, ap, ◌∙◌, arith}
 use Rattle.std.specs.Option.{option_map}
 use Rattle.std.proofs.lemmas.List.{append-nil, append_assoc, length-append, take-append-drop, take_more, take_all, at_drop_more, at_drop_all}
 use Rattle.std.proofs.lemmas.Bool.{cond_both, leb-false, ltb-true, cond-true, cond-false, lt-ltb, le-ltb, lt-leb, le-leb}
@@ -44,13 +44,6 @@ length_pack_front ts i =
     let e = ap (λ (l : List Text). length (pack_texts l)) (take-append-drop i ts) in
     let f = ap length (pack_texts-append (take i ts) (drop i ts)) in
     omega (arith, length-append (pack_texts (take i ts)) (pack_texts (drop i ts)))
-
--- texts that are lent one by one
-
-pub get_d_map : {X Y : Type 0} (f : X → Y) (xs : List X) (i : ℕ) (d : X) → f (get_or xs i d) ≡ get_or (map f xs) i (f d)
-get_d_map f [] i d = refl
-get_d_map f (x ∷ xs) zero d = refl
-get_d_map f (x ∷ xs) (suc i) d = get_d_map f xs i d
 
 unmapped : (o : Option ℕ) → option_map suc o ≡ None → o ≡ None
 unmapped None e = refl
@@ -110,9 +103,6 @@ module _ {ts : List Text} {i len : ℕ} (s : Sized ts i len) where
       (sym s.passed ∙ at_drop_all (λ (us : List Text). from i (first_place too_long us)) ts i h, omega arith)
 
 module _ (ts : List Text) where
-  pub size_many : 65536 ≤ length ts → Err (Count (length ts)) ≡ roll_size ts
-  size_many h = sym (cond-false _ _ _ (le-ltb (length ts) 65536 h))
-
   pub size_long : (i : ℕ) → length ts < 65536 → first_place too_long ts ≡ Some i → Err (Length i) ≡ roll_size ts
   size_long i h e = sym (cond-true _ _ _ (lt-ltb (length ts) 65536 h) ∙ ap (λ (o : Option ℕ). unless_long o (length (pack_roll ts))) e)
 

@@ -1,31 +1,17 @@
 -- The table of where the texts begin, filled one text after another.
-use Rattle.std.proofs.Common.{◌≡◌, ℕ, zero, suc, ◌+◌, ◌-◌, ◌*◌, ◌<◌, ◌≤◌, min, ltb, ◌≢◌, List, [], ◌∷◌, ◌++◌, length, get_or, take, drop, set, Some, None, Option, unwrap_or, sym, refl, ap, ◌∙◌, arith, below_more}
+use Rattle.std.proofs.Common.{◌≡◌, ℕ, zero, suc, ◌+◌, ◌-◌, ◌*◌, ◌<◌, ◌≤◌, min, List, [], ◌∷◌, ◌++◌, length, get_or, take, drop, Some, None, Option, unwrap_or, sym, refl, ap, ◌∙◌, arith, below_more}
 use native.Mathlib.Nat.{sub-zero}
 use Rattle.std.specs.List.{slice_get}
-use Rattle.std.specs.Option.{option_map, option_to_list}
-use Rattle.std.proofs.lemmas.List.{length-set, length-drop, get_or-set_same, get_or-set_other, get_or-drop, drop-drop, take_all}
+use Rattle.std.specs.Option.{option_map}
+use Rattle.std.proofs.lemmas.List.{length-append, length-drop, get_or_append_left, get_or_push, get_or-drop, drop-drop, take_all}
 use Rattle.address.specs.Text.{Text}
-use Rattle.roll.specs.Ends.{word_at, read_word, incoming}
+use Rattle.roll.specs.declared.fault.RollFault.TheVariants.{LeftOver}
+use Rattle.roll.specs.Ends.{word_at, read_word, roll_end, filled, incoming}
 use Rattle.roll.specs.Reading.{read_text, follow, texts_from, texts}
 use Rattle.roll.specs.Laws.{Bytes}
-use Rattle.std.proofs.lemmas.Option.{slice_get_past}
-use Rattle.std.proofs.lemmas.Bool.{cond_both, cond-true, cond-false, ltb-true, ltb-false, lt-ltb, le-ltb}
-use Rattle.roll.specs.Views.{viewed, text_at, found, Indexes, Views}
-use Rattle.roll.proofs.Parts.{roll_ended, texts-there}
+use Rattle.roll.specs.Views.{viewed, text_at, Indexes, Views}
+use Rattle.roll.proofs.Parts.{went, roll_ended, texts-there}
 use Rattle.roll.proofs.Readings.{text_read, texts-few, texts_counted, texts_uncounted, left_some, left_none, left_all}
-use Rattle.roll.proofs.Wholes.{filled_read}
-
--- an element by its number, in two lists one after the other
-
-pub nth_front : {X : Type 0} (xs ys : List X) (n : ℕ) → n < length xs → slice_get (xs ++ ys) n ≡ slice_get xs n
-nth_front [] ys n h = absurd (omega arith)
-nth_front (x ∷ xs) ys zero h = refl
-nth_front (x ∷ xs) ys (suc n) h = nth_front xs ys n (omega arith)
-
-pub nth_back : {X : Type 0} (xs ys : List X) (n : ℕ) → length xs ≤ n → slice_get (xs ++ ys) n ≡ slice_get ys (n - length xs)
-nth_back [] ys n h = rw sub-zero
-nth_back (x ∷ xs) ys zero h = absurd (omega arith)
-nth_back (x ∷ xs) ys (suc n) h = nth_back xs ys n (omega arith) ∙ (let d : n - length xs ≡ suc n - suc (length xs) = omega arith in rw d)
 
 -- what is left of a list after its first i
 left_first : {X : Type 0} (xs : List X) (i : ℕ) (x : X) (ys : List X) → drop i xs ≡ x ∷ ys → (slice_get xs i ≡ Some x) × (drop (i + 1) xs ≡ ys) × (i + 1 ≤ length xs)
@@ -55,7 +41,7 @@ viewed_from bs (Some n) e = ap (take 512) (texts_counted bs 0 n e) ∙ take-text
 pub views : (bs : List ℕ) → Views bs
 unfolding viewed
 views bs h =
-    let p = filled_read bs _ h in
+    let p = went (roll_end incoming bs 0) (filled LeftOver bs) tt h in
     let d = roll_ended incoming bs 0 p.0 p.1 in
     let m = d.most in
     let f = texts-few (word_at bs 0) (drop 2 bs) in
@@ -64,17 +50,17 @@ views bs h =
 
 -- i of n texts are in the table, and the next begins at `here`
 pub record Filled (bs : List ℕ) (n i here : ℕ) (rest starts : List ℕ) : Type 0 where
-  pub size : length starts ≡ 512
+  pub size : length starts ≡ i
   pub near : here ≤ 2 + i * 65537
   pub at : rest ≡ drop here bs
   pub left : drop i (viewed bs) ≡ texts_from (n - i) rest
   pub behind : i ≤ length (viewed bs)
   pub table : (k : ℕ) → k < i → text_at bs (get_or starts k 0) ≡ slice_get (viewed bs) k
 
-pub filled_none : (bs : List ℕ) (o : Option ℕ) (n : ℕ) (rest starts : List ℕ) → o ≡ read_word bs 0 → n ≡ min (unwrap_or o 0) 512 → rest ≡ drop 2 bs → length starts ≡ 512 → Filled bs n 0 2 rest starts
+pub filled_none : (bs : List ℕ) (o : Option ℕ) (n : ℕ) (rest starts : List ℕ) → o ≡ read_word bs 0 → n ≡ min (unwrap_or o 0) 512 → rest ≡ drop 2 bs → starts ≡ [] → Filled bs n 0 2 rest starts
 filled_none bs o n rest starts e k r l =
     record {
-      size = l;
+      size = ap length l;
       near = omega arith;
       at = r;
       left = rw (sub-zero, k, r) (viewed_from bs o e);
@@ -91,8 +77,8 @@ module _ {bs : List ℕ} {n i here : ℕ} {rest starts : List ℕ} (f : Filled b
       let y : get_or rest 1 0 < 256 = rw (f.at, get_or-drop here bs 1 0) (b (here + 1)) in
       omega arith
 
-  pub filled_more : (t more : List ℕ) → Bytes bs → i < n → n ≤ 512 → Some (t, more) ≡ read_text rest → Filled bs n (i + 1) (here + (2 + length t)) more (set starts i here)
-  filled_more t more b h few e =
+  pub filled_more : (t more starts' : List ℕ) → Bytes bs → i < n → Some (t, more) ≡ read_text rest → starts' ≡ starts ++ here ∷ [] → Filled bs n (i + 1) (here + (2 + length t)) more starts'
+  filled_more t more starts' b h e p =
       let r = text_read rest t more e in
       let l = left_first (viewed bs) i t (texts_from (n - (i + 1)) more) (f.left ∙ left_some n i rest t more h e) in
       let z = f.size in
@@ -100,15 +86,15 @@ module _ {bs : List ℕ} {n i here : ℕ} {rest starts : List ℕ} (f : Filled b
       let s = short t more b e in
       let here_is : text_at bs here ≡ slice_get (viewed bs) i = ap (λ (x : List ℕ). option_map (λ (p : Text × List ℕ). p.0) (read_text x)) (sym f.at) ∙ ap (option_map (λ (p : Text × List ℕ). p.0)) (sym e) ∙ sym l.0 in
       record {
-        size = simp length-set f.size;
+        size = ap length p ∙ omega (arith, length-append starts (here ∷ []));
         near = omega arith;
         at = r.past ∙ ap (drop (2 + length t)) f.at ∙ drop-drop (2 + length t) here bs;
         left = l.1;
         behind = l.2;
         table =
-            below_more (λ k. text_at bs (get_or (set starts i here) k 0) ≡ slice_get (viewed bs) k) i
-            (λ k h. let ne : k ≢ i = omega arith in rw get_or-set_other (f.table k h))
-            (let lt : i < length starts = omega arith in rw get_or-set_same here_is);
+            below_more (λ k. text_at bs (get_or starts' k 0) ≡ slice_get (viewed bs) k) i
+            (λ k h. let lt : k < length starts = omega arith in rw (p, get_or_append_left starts (here ∷ []) 0 k lt) (f.table k h))
+            (rw (p, get_or_push starts here 0 i f.size) here_is);
       }
 
   -- nothing is left
@@ -119,28 +105,12 @@ module _ {bs : List ℕ} {n i here : ℕ} {rest starts : List ℕ} (f : Filled b
       let b = f.behind in
       omega arith
 
-  pub filled_stop : i < n → None ≡ read_text rest → i ≡ length (viewed bs)
-  filled_stop h e = none_left (left_none n i rest h e)
+  filled_indexes : i ≡ length (viewed bs) → i ≤ 512 → Indexes bs starts
+  filled_indexes all few = let z = f.size in record { counted = z ∙ all; few = omega arith; places = λ k h. f.table k (omega arith) }
 
-  pub filled_all : n ≤ i → i ≡ length (viewed bs)
-  filled_all h = none_left (left_all n i rest h)
+  -- the bytes end before a text
+  pub filled_stop : i < n → n ≤ 512 → None ≡ read_text rest → Indexes bs starts
+  filled_stop h few e = filled_indexes (none_left (left_none n i rest h e)) (omega arith)
 
-  pub filled_indexes : (m : ℕ) → i ≡ m → m ≡ length (viewed bs) → Indexes bs m starts
-  filled_indexes m same all k =
-      ap option_to_list
-      (cond_both (ltb k m) (text_at bs (get_or starts k 0)) None (λ (o : Option Text). o ≡ slice_get (viewed bs) k)
-      (λ t. f.table k (omega (arith, ltb-true k m t)))
-      (λ t. sym (slice_get_past (viewed bs) k (omega (arith, ltb-false k m t)))))
-
-list_of_same : {X : Type 0} (a b : Option X) → option_to_list a ≡ option_to_list b → a ≡ b
-list_of_same None None e = refl
-list_of_same None (Some y) e = let z : ◌≡◌ {A = ℕ} 0 1 = cc in absurd (omega arith)
-list_of_same (Some x) None e = let z : ◌≡◌ {A = ℕ} 0 1 = cc in absurd (omega arith)
-list_of_same (Some x) (Some y) e = cc
-
-module _ (bs : List ℕ) (n : ℕ) (starts : List ℕ) (x : Indexes bs n starts) (k : ℕ) where
-  pub found_within : k < n → text_at bs (get_or starts k 0) ≡ slice_get (viewed bs) k
-  found_within h = sym (cond-true _ _ _ (lt-ltb k n h)) ∙ list_of_same (found bs n starts k) (slice_get (viewed bs) k) (x k)
-
-  pub found-past : n ≤ k → None ≡ slice_get (viewed bs) k
-  found-past h = sym (cond-false _ _ _ (le-ltb k n h)) ∙ list_of_same (found bs n starts k) (slice_get (viewed bs) k) (x k)
+  pub filled_all : i ≡ n → n ≤ 512 → Indexes bs starts
+  filled_all h few = filled_indexes (none_left (left_all n i rest (omega arith))) (omega arith)

@@ -1,11 +1,9 @@
 -- Laws of writing over a list.
-use Rattle.std.proofs.Common.{◌≡◌, ℕ, suc, ◌+◌, ◌<◌, ◌≤◌, Bool, true, false, cond, ◌&&◌, List, [], ◌∷◌, ◌++◌, length, take, drop, set, Some, None, Option, sym, refl, ap, ◌∙◌, arith}
+use Rattle.std.proofs.Common.{◌≡◌, ℕ, suc, ◌+◌, ◌≤◌, List, [], ◌∷◌, ◌++◌, length, take, drop, set, sym, refl, ap, ◌∙◌, arith}
 use borrow.Rule.Slice.PartMut.{put_mid}
-use Rattle.std.proofs.lemmas.List.{length-take-le, drop_at, length-append, append_assoc, length-set, set_comm, take-append-drop, drop-drop, drop-set-lt, take_more_set}
-use Rattle.std.proofs.lemmas.Bool.{cond_both, cond-true, and_parts, leb-true}
-use Rattle.roll.specs.Ends.{there}
+use Rattle.std.proofs.lemmas.List.{length-take-le, drop_at, length-append, append_assoc, length-set, take-append-drop, drop-drop, drop-set-lt, take_more_set}
 use Rattle.roll.specs.Laws.{Stands, WritesRows}
-use Rattle.roll.specs.Written.{written, put, put_end}
+use Rattle.roll.specs.Written.{written}
 
 pub written_one : (d : List ℕ) (i x : ℕ) → set d i x ≡ written d i (x ∷ [])
 unfolding written
@@ -25,24 +23,6 @@ pub written-append : (xs ys d : List ℕ) (i j : ℕ) → j ≡ i + length xs �
 unfolding written
 written-append [] ys d i j e = let z : j ≡ i = omega arith in rw z
 written-append (x ∷ xs) ys d i j e = written-append xs ys (set d i x) (i + 1) j (omega arith)
-
--- one more at the end
-pub written_more : (xs d : List ℕ) (i j x : ℕ) → j ≡ i + length xs → set (written d i xs) j x ≡ written d i (xs ++ x ∷ [])
-written_more xs d i j x e = written_one (written d i xs) j x ∙ written-append xs (x ∷ []) d i j e
-
--- a write before a row that stands
-set_written : (xs d : List ℕ) (i j x : ℕ) → j < i → set (written d i xs) j x ≡ written (set d j x) i xs
-unfolding written
-set_written [] d i j x h = refl
-set_written (y ∷ xs) d i j x h =
-    set_written xs (set d i y) (i + 1) j x (omega arith) ∙ ap (λ e. written e (i + 1) xs) (set_comm d i j y x (λ e. omega arith))
-
--- the later row first
-pub written-before : (xs ys d : List ℕ) (i j : ℕ) → j ≡ i + length xs → written (written d j ys) i xs ≡ written d i (xs ++ ys)
-unfolding written
-written-before [] ys d i j e = let z : j ≡ i = omega arith in rw z
-written-before (x ∷ xs) ys d i j e =
-    ap (λ f. written f (i + 1) xs) (set_written ys d j i x (omega arith)) ∙ written-before xs ys (set d i x) (i + 1) j (omega arith)
 
 -- every place of what is left, where the row fits
 pub written_is : (xs d : List ℕ) (i : ℕ) → i + length xs ≤ length d → written d i xs ≡ take i d ++ (xs ++ drop (i + length xs) d)
@@ -96,30 +76,3 @@ wrote_more {p} {start} {tray} {at} {end} w p' q tray' end' e t n =
       ends = omega arith;
       holds = rw (t, w.holds) (written-append p q start at end w.ends);
     }
-
--- what a call that writes a row, or leaves the tray as it was, says by its answer
-module _ (may : Bool) (d : List ℕ) (i : ℕ) (row : List ℕ) where
-  pub record Put (e : ℕ) : Type 0 where
-    pub might : may ≡ true
-    pub ends : e ≡ i + length row
-    pub within : e ≤ length d
-    pub holds : put may d i row ≡ written d i row
-
-  pub put_some : (e : ℕ) → Some e ≡ put_end may d i row → Put e
-  put_some e =
-      let P : Option ℕ → Type 0 = λ (o : Option ℕ). Some e ≡ o → Put e in
-      cond_both (may && there d i (length row)) (Some (i + length row)) None P
-      (λ t k.
-      let q = and_parts may (there d i (length row)) t in
-      let j : e ≡ i + length row = cc in
-      record { might = q.0; ends = j; within = omega (arith, leb-true (i + length row) (length d) q.1); holds = cond-true _ _ _ t })
-      (λ t k. let z : ◌≡◌ {A = ℕ} 0 1 = cc in absurd (omega arith))
-
-  pub put_none : None ≡ put_end may d i row → put may d i row ≡ d
-  put_none e =
-      let P : Bool → Type 0 = λ (b : Bool). None ≡ cond b (Some (i + length row)) None → cond b (written d i row) d ≡ d in
-      (elim (may && there d i (length row)) as P [
-        | true ↦ λ k. let z : ◌≡◌ {A = ℕ} 0 1 = cc in absurd (omega arith)
-        | false ↦ λ k. refl
-      ])
-      e

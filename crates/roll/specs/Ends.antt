@@ -44,10 +44,9 @@ roll_end l bs at =
     (texts_end l (word_at bs at) bs (at + 2))
     (Err (Count at))
 
--- nothing is left over
-abbrev pub filled : List ℕ → End → Result (Unit {0}) RollFault
-filled bs (Ok e) = cond (nat_lt e (length bs)) (Err (LeftOver e)) (Ok tt)
-filled bs (Err f) = Err f
+-- a part that ends at e is all of the bytes: nothing is left over
+abbrev pub filled : {E : Type 0} → (ℕ → E) → List ℕ → ℕ → Result (Unit {0}) E
+filled left_over bs e = cond (nat_lt e (length bs)) (Err (left_over e)) (Ok tt)
 
 -- the limits of a roll of incoming addresses
 abbrev pub incoming : Limits
@@ -55,4 +54,4 @@ incoming = record { least = 0; most = 512; longest = 998 }
 
 -- a roll that is all of its slice
 abbrev pub whole : Limits → List ℕ → Result (Unit {0}) RollFault
-whole l bs = filled bs (roll_end l bs 0)
+whole l bs = after (roll_end l bs 0) (filled LeftOver bs)

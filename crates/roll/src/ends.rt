@@ -1,29 +1,37 @@
 // Where the parts of a packed roll end. Each reader goes from a place in the whole slice to the place after its part.
-ghost use Rattle.std.specs.Prelude.{◌≡◌, ◌≤◌, List, length, IfOk, MatchResult};
+ghost use Rattle.std.specs.Prelude.{◌≡◌, ◌<◌, ◌≤◌, List, length, IfOk, MatchResult};
 ghost use Rattle.address.specs.Text.{Text};
-ghost use Rattle.roll.specs.Ends.{there, read_word, text_end, roll_end, whole, incoming};
+ghost use Rattle.roll.specs.Ends.{there, word_at, read_word, text_end, roll_end, whole, incoming};
 ghost use Rattle.roll.specs.Laws.{Packed};
 ghost use Rattle.roll.specs.Reading.{texts};
 
 use crate::fault::RollFault;
 use crate::limits::{INCOMING, Limits};
+use crate::reading::tail;
 
 /// Whether the `n` bytes from `at` on are all there.
 pub(crate) fn is_there(bytes: &[u8], at: usize, n: usize) -> bool
     ensures { result ≡ there bytes.now at n }
 {
-    at <= bytes.len() && n <= bytes.len() - at
+    bytes.get(at..).is_some_and(|rest| n <= rest.len())
 }
 
 /// The number in the two bytes at a place, the high one first.
 pub fn read_word(bytes: &[u8], at: usize) -> Option<usize>
     ensures { result ≡ read_word bytes.now at }
 {
-    if is_there(bytes, at, 2) {
-        Some(bytes[at] as usize * 256 + bytes[at + 1] as usize)
-    } else {
-        None
-    }
+    let word = bytes.get(at..)?.first_chunk::<2>()?;
+    Some(usize::from(u16::from_be_bytes(*word)))
+}
+
+/// The number in the two bytes at a place, of which those past the end are 0.
+pub fn word_at(bytes: &[u8], at: usize) -> usize
+    ensures value { result ≡ word_at bytes.now at }
+    ensures small { result < 65536 }
+{
+    let rest = tail(bytes, at);
+    let byte = |n: usize| rest.get(n).copied().unwrap_or(0);
+    usize::from(u16::from_be_bytes([byte(0), byte(1)]))
 }
 
 /// Where the text at a place ends.
@@ -31,16 +39,11 @@ pub fn text_end(limits: Limits, bytes: &[u8], at: usize) -> Result<usize, RollFa
     ensures value { result ≡ text_end limits bytes.now at }
     ensures bound { IfOk result (λ e. (at ≤ e) × (e ≤ length bytes.now)) }
 {
-    let Some(len) = read_word(bytes, at) else {
-        return Err(RollFault::Length(at));
-    };
-    if len > limits.longest {
+    let len = read_word(bytes, at).ok_or(RollFault::Length(at))?;
+    if len > limits.longest || !is_there(bytes, at, 2 + len) {
         return Err(RollFault::Length(at));
     }
-    if !is_there(bytes, at, 2 + len) {
-        return Err(RollFault::Length(at));
-    }
-    Ok(at + (2 + len))
+    Ok(at + 2 + len)
 }
 
 /// Where the roll at a place ends.
@@ -48,14 +51,12 @@ pub fn roll_end(limits: Limits, bytes: &[u8], at: usize) -> Result<usize, RollFa
     ensures value { result ≡ roll_end limits bytes.now at }
     ensures bound { IfOk result (λ e. (at ≤ e) × (e ≤ length bytes.now)) }
 {
-    let Some(count) = read_word(bytes, at) else {
-        return Err(RollFault::Count(at));
-    };
+    let count = read_word(bytes, at).ok_or(RollFault::Count(at))?;
     if count < limits.least || count > limits.most {
         return Err(RollFault::Count(at));
     }
     let mut end = at + 2;
-    for i in 0..count {
+    for _ in 0..count {
         end = text_end(limits, bytes, end)?;
     }
     Ok(end)

@@ -32,9 +32,7 @@ impl RollFault {
         ensures { result ≡ roll_place self.now }
     {
         match self {
-            RollFault::Count(at) => *at,
-            RollFault::Length(at) => *at,
-            RollFault::LeftOver(at) => *at,
+            RollFault::Count(at) | RollFault::Length(at) | RollFault::LeftOver(at) => *at,
             RollFault::InText(fault) => fault.place,
         }
     }

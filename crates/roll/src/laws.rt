@@ -3,16 +3,12 @@ ghost use Rattle.roll.specs.Laws.{ReadsRolls, PacksRolls, WritesRows};
 
 /// The law of rolls, at any place of a slice and for any limits: what is accepted is the packed roll of the texts read
 /// from it, and every packed roll of texts within the limits is accepted and read back.
-pub fn rolls_stand() -> u8
+pub fn rolls_stand()
     ensures reads { ReadsRolls }
     ensures packs { PacksRolls }
-{
-    0
-}
+{}
 
 /// What has been written stands there, and the rest is as it was.
-pub fn writing_stands() -> u8
+pub fn writing_stands()
     ensures { WritesRows }
-{
-    0
-}
+{}

@@ -6,17 +6,15 @@ mod fault;
 mod laws;
 mod limits;
 mod reading;
-mod table;
 mod view;
 mod write;
 
-pub use ends::{check_roll, read_word, roll_end, text_end};
+pub use ends::{check_roll, read_word, roll_end, text_end, word_at};
 pub use fault::RollFault;
 pub use laws::{rolls_stand, writing_stands};
 pub use limits::{INCOMING, Limits};
 pub use reading::{check_texts, check_texts_at, read_text, roll_text};
-pub use table::Roll;
-pub use view::address;
+pub use view::{Roll, address};
 pub use write::{WriteFault, write_byte, write_roll, write_text, write_word};
 
 #[cfg(test)]

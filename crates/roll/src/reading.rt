@@ -12,7 +12,7 @@ use address::check_text_within;
 pub(crate) fn tail(bytes: &[u8], at: usize) -> &[u8]
     ensures { result.now ≡ drop at bytes.now }
 {
-    if at < bytes.len() { &bytes[at..] } else { &[] }
+    bytes.get(at..).unwrap_or(&[])
 }
 
 /// The first text and what follows it, from which the next is read.
@@ -20,10 +20,7 @@ pub fn read_text(rest: &[u8]) -> Option<(&[u8], &[u8])>
     ensures { option_map (λ p. (p.0.now, p.1.now)) result ≡ read_text rest.now }
 {
     let len = read_word(rest, 0)?;
-    if rest.len() < 2 + len {
-        return None;
-    }
-    Some((&rest[2..2 + len], &rest[2 + len..]))
+    rest.get(2..)?.split_at_checked(len)
 }
 
 /// Text `m` of the roll at a place, found by reading the texts before it.
@@ -35,12 +32,10 @@ pub fn roll_text(bytes: &[u8], at: usize, m: usize) -> Option<&[u8]>
         return None;
     }
     let mut rest = tail(bytes, at + 2);
-    for i in 0..m {
-        let (_, more) = read_text(rest)?;
-        rest = more;
+    for _ in 0..m {
+        (_, rest) = read_text(rest)?;
     }
-    let (text, _) = read_text(rest)?;
-    Some(text)
+    read_text(rest).map(|(text, _)| text)
 }
 
 /// Refuses the first byte that no text may hold, in the texts of the roll at a place.
@@ -52,7 +47,7 @@ pub fn check_texts_at(bytes: &[u8], at: usize) -> Result<(), RollFault>
     };
     let mut here = at + 2;
     let mut rest = tail(bytes, here);
-    for i in 0..count {
+    for _ in 0..count {
         let Some((text, more)) = read_text(rest) else {
             return Ok(());
         };

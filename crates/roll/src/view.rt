@@ -2,74 +2,73 @@
 ghost use Rattle.std.specs.Prelude.{◌≡◌, ◌≤◌, ◌++◌, length};
 ghost use Rattle.std.specs.List.{slice_get};
 ghost use Rattle.std.specs.Option.{option_map};
-ghost use Rattle.roll.specs.Views.{viewed, Indexes, Views};
+ghost use Rattle.roll.specs.Views.{viewed, Views};
 
 use crate::ends::read_word;
 use crate::reading::{read_text, tail};
-use crate::table::Roll;
+use arrayvec::ArrayVec;
+use std::marker::Model;
 
+/// A packed roll whose texts are found in constant time.
 #[derive(Drop)]
-struct Starts {
-    count: usize,
-    starts: [u32; 512],
+pub struct Roll<'a> {
+    bytes: &'a [u8],
+    // a roll of 512 texts of 998 bytes is longer than two bytes can count
+    starts: ArrayVec<u32, 512>,
 }
 
-/// Reads the texts once, and keeps where each begins.
-fn index(bytes: &[u8]) -> Starts
-    ensures counted { result.count ≡ length (viewed bytes.now) }
-    ensures few { result.count ≤ 512 }
-    ensures indexed { Indexes bytes.now result.count result.starts }
-{
-    let mut starts = [0; 512];
-    let count = read_word(bytes, 0).unwrap_or(0).min(512);
-    let mut here = 2;
-    let mut rest = tail(bytes, 2);
-    for i in 0..count {
-        let Some((text, more)) = read_text(rest) else {
-            return Starts { count: i, starts };
-        };
-        starts[i] = here as u32;
-        here += 2 + text.len();
-        rest = more;
-    }
-    Starts { count, starts }
+impl<'a> Model for Roll<'a> {
+    ghost use Rattle.std.specs.Prelude.{List};
+    ghost use Rattle.address.specs.Text.{Text};
+    ghost use Rattle.roll.specs.Views.{viewed, Indexes};
+
+    ghost Value = { List Text };
+
+    ghost view = { λ r. viewed r.bytes.now };
+
+    ghost invariant = { λ r. Indexes r.bytes.now r.starts.items };
 }
 
 impl<'a> Roll<'a> {
-    /// The view of the first 512 texts, which of an incoming roll are all.
+    /// The view of the first 512 texts, which of an incoming roll are all: reads them once, and keeps where each begins.
     pub fn new(bytes: &'a [u8]) -> Roll<'a>
-        ensures bytes { result.bytes.now ≡ bytes.now }
+        ensures texts { result ≡ viewed bytes.now }
         ensures all { Views bytes.now }
     {
-        let Starts { count, starts } = index(bytes);
-        Roll {
-            bytes,
-            count,
-            starts,
+        let count = read_word(bytes, 0).unwrap_or(0).min(512);
+        let mut starts = ArrayVec::new();
+        let mut here = 2;
+        let mut rest = tail(bytes, here);
+        for _ in 0..count {
+            let Some((text, more)) = read_text(rest) else {
+                break;
+            };
+            let _ = starts.try_push(here as u32);
+            here += 2 + text.len();
+            rest = more;
         }
+        Roll { bytes, starts }
     }
 
     pub fn len(&self) -> usize
-        ensures { result ≡ length (viewed self.now.bytes.now) }
+        ensures value { result ≡ length self.now }
+        ensures few { result ≤ 512 }
     {
-        self.count
+        self.starts.len()
     }
 
     /// Text `n`.
     pub fn text(&self, n: usize) -> Option<&'a [u8]>
-        ensures { option_map (λ x. x.now) result ≡ slice_get (viewed self.now.bytes.now) n }
+        ensures { option_map (λ x. x.now) result ≡ slice_get self.now n }
     {
-        if n >= self.len() {
-            return None;
-        }
-        let (text, _) = read_text(tail(self.bytes, self.starts[n] as usize))?;
-        Some(text)
+        let at = *self.starts.get(n)?;
+        read_text(tail(self.bytes, at as usize)).map(|(text, _)| text)
     }
 }
 
 /// The incoming address numbered `n`, those of To first and then those of Cc.
 pub fn address<'a>(to: &Roll<'a>, cc: &Roll<'a>, n: usize) -> Option<&'a [u8]>
-    ensures { option_map (λ x. x.now) result ≡ slice_get (viewed to.now.bytes.now ++ viewed cc.now.bytes.now) n }
+    ensures { option_map (λ x. x.now) result ≡ slice_get (to.now ++ cc.now) n }
 {
     let first = to.len();
     if n < first {

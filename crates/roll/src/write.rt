@@ -25,8 +25,7 @@ fn put_word(tray: &mut [u8], at: usize, n: usize)
     requires small { n < 65536 }
     ensures { tray.new ≡ written tray.old at (word n) }
 {
-    tray[at] = (n / 256) as u8;
-    tray[at + 1] = (n % 256) as u8;
+    tray[at..at + 2].copy_from_slice(&(n as u16).to_be_bytes());
 }
 
 fn put_text(tray: &mut [u8], at: usize, text: &[u8]) -> usize
@@ -36,8 +35,9 @@ fn put_text(tray: &mut [u8], at: usize, text: &[u8]) -> usize
     ensures tray { tray.new ≡ written tray.old at (pack_text text.now) }
 {
     put_word(tray, at, text.len());
-    tray[at + 2..at + 2 + text.len()].copy_from_slice(text);
-    at + 2 + text.len()
+    let end = at + 2 + text.len();
+    tray[at + 2..end].copy_from_slice(text);
+    end
 }
 
 /// Writes a byte, and gives the place after it.
@@ -57,10 +57,7 @@ pub fn write_word(tray: &mut [u8], at: usize, n: usize) -> Option<usize>
     ensures end { result ≡ put_end (nat_lt n 65536) tray.old at (word n) }
     ensures tray { tray.new ≡ put (nat_lt n 65536) tray.old at (word n) }
 {
-    if n >= WORDS {
-        return None;
-    }
-    if !is_there(tray, at, 2) {
+    if n >= WORDS || !is_there(tray, at, 2) {
         return None;
     }
     put_word(tray, at, n);
@@ -72,10 +69,7 @@ pub fn write_text(tray: &mut [u8], at: usize, text: &[u8]) -> Option<usize>
     ensures end { result ≡ put_end (nat_lt (length text.now) 65536) tray.old at (pack_text text.now) }
     ensures tray { tray.new ≡ put (nat_lt (length text.now) 65536) tray.old at (pack_text text.now) }
 {
-    if text.len() >= WORDS {
-        return None;
-    }
-    if !is_there(tray, at, 2 + text.len()) {
+    if text.len() >= WORDS || !is_there(tray, at, 2 + text.len()) {
         return None;
     }
     Some(put_text(tray, at, text))

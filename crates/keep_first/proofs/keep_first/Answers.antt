@@ -1,8 +1,7 @@
-use Rattle.std.proofs.Common.{◌≡◌, ℕ, ◌<◌, ◌≤◌, Bool, true, List, ◌++◌, length, drop, sym, ap, ◌∙◌, arith}
-use Rattle.keep_first.specs.Model.{Classes, standing_at, fits}
+use Rattle.std.proofs.Common.{ℕ, ◌<◌, Bool, arith}
+use Rattle.keep_first.specs.Model.{Classes, standing_at}
 use Rattle.keep_first.proofs.KeptPlaces.{kept_below, kept_below_none, kept_below_more, standing_within}
-use Rattle.keep_first.proofs.Filled.{filled_none, filled-some, filled_skip, filled-length, filled_all}
-use Rattle.keep_first.proofs.Slots.{fits_from, count_kept, slots_kept}
+use Rattle.keep_first.proofs.Filled.{filled_none, filled-some, filled_skip}
 use Rattle.keep_first.proofs.keep_first.Goals as goal
 use Rattle.keep_first.proofs.keep_first.Goals.{in-Some, in_default}
 
@@ -28,16 +27,3 @@ loop-i-preserved g c =
       | in-Some w ↦ rw (w.slots-is, w.filled-is) (filled-some (kept_below m preferred) c.loop-i.invariant (standing_at m preferred) more w.in-Some.place (omega arith) w.in-Some.ensures)
       | in_default w ↦ rw (w.slots-is, w.filled-is) (filled_skip (kept_below m preferred) c.loop-i.invariant (standing_at m preferred) more w.in_default.ensures)
     ]
-
-pub returns : goal.returns
-returns g c =
-    let m : Classes = g.R.Roll.classes c.args.roll.now c.args.texts.now c.args.source.now in
-    let preferred : ℕ → Bool = g.R.Roll.preferred c.args.roll.now c.args.texts.now c.args.source.now in
-    let start : List ℕ = c.args.slots.now in
-    let all : c.loop-i.i ≡ m.count = omega arith in
-    let within : c.loop-i.filled ≤ length c.loop-i.slots = omega arith in
-    let fit : fits m start ≡ true = fits_from m start (omega arith) (omega arith) in
-    record {
-      answer = count_kept m start preferred c.loop-i.filled fit (filled-length (kept_below m preferred) c.loop-i.invariant within ∙ ap (λ i. length (kept_below m preferred i)) all);
-      state = filled_all (kept_below m preferred) c.loop-i.invariant within ∙ ap (λ i. kept_below m preferred i ++ drop (length (kept_below m preferred i)) start) all ∙ sym (slots_kept m start preferred fit);
-    }

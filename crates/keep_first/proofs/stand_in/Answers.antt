@@ -1,25 +1,18 @@
-use Rattle.std.proofs.Common.{ℕ, Bool, ◌&&◌, arith, rules}
-use Rattle.keep_first.specs.Model.{Classes, stand_in_from}
-use Rattle.keep_first.proofs.KeptPlaces.{first_goes_on, first_hit, first_ends}
+use Rattle.std.proofs.Common.{ℕ, ◌-◌, Bool, Option, ◌&&◌, sym, refl, ap, ◌∙◌, unwrap_or, rules, tests, arith}
+use Rattle.std.specs.List.{range_with_len}
+use Rattle.std.proofs.lemmas.Iterator.{YieldsList-from_range}
+use Rattle.std.proofs.lemmas.Iterator.Adapters.{option_map_id}
+use Rattle.std.proofs.lemmas.Iterator.Search.{find_from_yields_List}
+use Rattle.keep_first.specs.Model.{Classes}
+use Rattle.keep_first.proofs.StandsIn.{find_kept}
 use Rattle.keep_first.proofs.stand_in.Goals as goal
-
-pub returns-then-may_stand : goal.returns-then-may_stand
-returns-then-may_stand g c =
-    let m : Classes = g.R.Roll.classes c.args.roll.now c.args.texts.now c.args.source.now in
-    let preferred : ℕ → Bool = g.R.Roll.preferred c.args.roll.now c.args.texts.now c.args.source.now in
-    first_hit m.takes (λ j. m.same c.args.i j && preferred j) c.args.i (stand_in_from m preferred c.args.i) c.loop-j.j m.count
-    c.loop-j.invariant (omega arith) (search rules)
-
-pub loop-j-preserved : goal.loop-j-preserved
-loop-j-preserved g c =
-    let m : Classes = g.R.Roll.classes c.args.roll.now c.args.texts.now c.args.source.now in
-    let preferred : ℕ → Bool = g.R.Roll.preferred c.args.roll.now c.args.texts.now c.args.source.now in
-    first_goes_on m.takes (λ j. m.same c.args.i j && preferred j) c.args.i (stand_in_from m preferred c.args.i) c.loop-j.j m.count
-    c.loop-j.invariant (omega arith) (search rules)
 
 pub returns : goal.returns
 returns g c =
     let m : Classes = g.R.Roll.classes c.args.roll.now c.args.texts.now c.args.source.now in
     let preferred : ℕ → Bool = g.R.Roll.preferred c.args.roll.now c.args.texts.now c.args.source.now in
-    first_ends m.takes (λ j. m.same c.args.i j && preferred j) c.args.i (stand_in_from m preferred c.args.i) c.loop-j.j m.count
-    c.loop-j.invariant (omega arith)
+    let n : ℕ = m.count - c.args.i in
+    c.unwrap_or.ensures
+    ∙ ap (λ (o : Option ℕ). unwrap_or o c.args.i) (sym (option_map_id c.find.result)
+    ∙ find_from_yields_List (λ j. m.takes j && (m.same c.args.i j && preferred j)) _ _ c.find.result c.find.ensures.ran (YieldsList-from_range c.args.i c.len.result n refl (omega arith)) (λ x b q k. search (rules, tests)))
+    ∙ find_kept (λ j. m.same c.args.i j && preferred j) c.args.i m.takes (range_with_len c.args.i n)

@@ -1,6 +1,5 @@
-use Rattle.std.proofs.Common.{◌≡◌, ◌+◌, ◌-◌, length, take, drop, ap, ◌∙◌, arith}
+use Rattle.std.proofs.Common.{◌+◌, ap, ◌∙◌}
 use Rattle.std.proofs.lemmas.List.{take_rest}
-use Rattle.address.specs.Text.{trimmed}
 use Rattle.address.proofs.Angles.{part_of, part_open, part_angled}
 use Rattle.address.proofs.mailbox.address_part.Goals as goal
 
@@ -12,8 +11,6 @@ returns-in_default-find_outside c =
 pub returns : goal.returns
 returns c =
     let same = take_rest c.trim-whole.result.now (c.in-Some.i + 1) in
-    let upto : c.in-Some-find_outside.n - 0 ≡ c.in-Some-find_outside.n = omega arith in
     c.trim.ensures
-    ∙ ap (λ n. trimmed (take n (take (length c.trim-whole.result.now - (c.in-Some.i + 1)) (drop (c.in-Some.i + 1) c.trim-whole.result.now)))) upto
     ∙ part_angled c.trim-whole.result.now _ c.in-Some.i c.in-Some.ensures.value same c.in-Some-find_outside.n c.in-Some-find_outside.ensures.value
     ∙ ap part_of c.trim-whole.ensures

@@ -1,7 +1,7 @@
-use Rattle.std.proofs.Common.{◌≡◌, ◌≢◌, ◌-◌, get_or, sym, ◌∙◌, arith, rules}
+use Rattle.std.proofs.Common.{◌≡◌, ◌≢◌, ◌-◌, get_or, ◌∙◌, arith, rules}
 use Rattle.address.specs.Quoted.{next}
 use Rattle.address.specs.declared.scanner.Scanner.TheVariants.{Outside}
-use Rattle.address.proofs.Quotes.{unseen, seen_at_start, seen_before, seen_past, seen_found, seen_end}
+use Rattle.address.proofs.Quotes.{unseen, seen_at_start, seen_before, seen_past}
 use Rattle.address.proofs.scanner.find_outside.Goals as goal
 use Rattle.address.proofs.scanner.find_outside.Goals.{else-eq-via-then-eq+else-b-c, else-eq-via-else-eq, then-i-ordinary, else-i-ordinary}
 
@@ -20,15 +20,3 @@ loop-i-preserved c =
       | else-i-ordinary w ↦
           simp w.state-is (c.loop-i.invariant ∙ seen_past c.args.c c.args.text.now c.loop-i.state c.loop-i.i c.unclosed-ordinary.result c.loop-i-test.true ne w.if-i-ordinary.false)
     ]
-
-pub returns-then-b-c : goal.returns-then-b-c
-returns-then-b-c c = record {
-  value = sym (c.loop-i.invariant ∙ seen_found c.args.c c.args.text.now c.loop-i.state c.loop-i.i c.unclosed-ordinary.result c.loop-i-test.true (search rules) c.if-b-c.true);
-  bound = c.loop-i-test.true;
-}
-
-pub returns : goal.returns
-returns c = record {
-  value = sym (c.loop-i.invariant ∙ seen_end c.args.c c.args.text.now c.loop-i.state c.loop-i.i c.unclosed-ordinary.result c.loop-i-test.false);
-  bound = tt;
-}

@@ -1,19 +1,16 @@
-use Rattle.std.proofs.cmp.Tests.{cases_from_iff}
-use Rattle.std.proofs.Common.{sym, arith, below_more}
+use Rattle.std.proofs.Common.{◌<◌, length, ◌∙◌, rules, tests}
+use Rattle.std.specs.Str.{bytes_eq}
+use Rattle.std.proofs.lemmas.Slice.Eq.{bytes_eq-Decides}
+use Rattle.std.proofs.lemmas.Iterator.Search.{any_from_yields_List}
 use Rattle.address.specs.Text.{small}
-use Rattle.address.proofs.Holding.{holds_at, small_part_same, small_part_differs, small_nowhere}
+use Rattle.address.proofs.Windows.{YieldsList-from_windows, window_held, nothing_held}
 use Rattle.address.proofs.text.contains_small.Goals as goal
 
-pub loop-i-preserved : goal.loop-i-preserved
-loop-i-preserved c =
-    below_more _ _ c.loop-i.invariant (small_part_differs c.args.text.now c.args.part.now c.loop-i.i (cases_from_iff c.if-eq_ignore_ascii_case.ensures.test))
+pub returns-then-is_empty : goal.returns-then-is_empty
+returns-then-is_empty c = search (rules, nothing_held)
 
-pub returns-then-eq_ignore_ascii_case : goal.returns-then-eq_ignore_ascii_case
-returns-then-eq_ignore_ascii_case c =
-    sym (holds_at (small c.args.text.now) (small c.args.part.now) c.loop-i.i (small_part_same c.args.text.now c.args.part.now c.loop-i.i (cases_from_iff c.if-eq_ignore_ascii_case.ensures.test)))
-
-pub returns-then-text-n : goal.returns-then-text-n
-returns-then-text-n c = sym (small_nowhere c.args.text.now c.args.part.now (λ k l. absurd (omega arith)))
-
-pub returns : goal.returns
-returns c = sym (small_nowhere c.args.text.now c.args.part.now (λ k l. c.loop-i.invariant k (omega arith)))
+pub returns-else-is_empty : goal.returns-else-is_empty
+returns-else-is_empty c =
+    let some : 0 < length c.args.part.now = search rules in
+    any_from_yields_List (λ w. bytes_eq (small w) (small c.args.part.now)) _ _ _ c.any.ensures.ran (YieldsList-from_windows _ _ c.args.text.now some (search rules) (search rules)) (λ x b q k. search (rules, tests, bytes_eq-Decides))
+    ∙ window_held c.args.text.now c.args.part.now some

@@ -1,22 +1,12 @@
-use Rattle.std.proofs.Common.{◌≡◌, ◌-◌, length, take, ap, arith, rules}
-use Rattle.std.specs.List.{suffix_len}
-use Rattle.std.proofs.lemmas.List.{take_all}
-use Rattle.std.proofs.lemmas.List.Sums.{suffix_len-take_yes, suffix_len-take_no, suffix_len-le-length}
+use Rattle.std.proofs.Common.{◌-◌, take, length, reverse, ap, ◌∙◌, rules, tests}
+use Rattle.std.proofs.lemmas.List.Folds.{length-prefix_len}
+use Rattle.std.proofs.lemmas.Iterator.Adapters.{YieldsList-from_rev_slice}
+use Rattle.std.proofs.lemmas.Iterator.Consumers.{YieldsList-at, count_from_yields_List}
+use Rattle.std.proofs.lemmas.Iterator.Search.{YieldsList-from_take_while}
 use Rattle.address.specs.Text.{blank}
 use Rattle.address.proofs.text.trim_end.Goals as goal
-use Rattle.address.proofs.text.trim_end.Goals.{then-loop-n-test+else-is_blank, else-loop-n-test}
-
-pub loop-n-init : goal.loop-n-init
-loop-n-init c = search (rules, take_all)
-
-pub loop-n-preserved : goal.loop-n-preserved
-loop-n-preserved c = grind (arith, suffix_len-take_yes blank)
 
 pub returns : goal.returns
 returns c =
-    let e : c.loop-n.n - 0 ≡ length c.args.text.now - suffix_len blank c.args.text.now =
-    elim c.loop-n-test.branch [
-      | then-loop-n-test+else-is_blank w ↦ grind (arith, suffix_len-take_no blank)
-      | else-loop-n-test w ↦ grind (arith, suffix_len-le-length blank)
-    ] in
-    ap (λ i. take i c.args.text.now) e
+    let t = c.args.text.now in
+    ap (λ n. take (length t - n) t) (count_from_yields_List c.take_while.result _ c.count-blanks.ensures.ran (YieldsList-from_take_while _ blank (YieldsList-at c.take_while.ensures.source (YieldsList-from_rev_slice t cc)) c.take_while.ensures.closure c.take_while.ensures.done (λ x b q k. search (rules, tests))) ∙ length-prefix_len blank (reverse t))

@@ -1,19 +1,13 @@
-use Rattle.std.proofs.Common.{◌≡◌, drop, sym, ap, ◌∙◌, arith}
-use Rattle.std.specs.List.{prefix_len}
+use Rattle.std.proofs.Common.{drop, ap, ◌∙◌, rules, tests}
 use Rattle.std.proofs.lemmas.List.{take_rest}
-use Rattle.std.proofs.lemmas.List.Sums.{prefix_len-drop_yes, prefix_len-drop_no, prefix_len-drop_all}
+use Rattle.std.proofs.lemmas.List.Folds.{length-prefix_len}
+use Rattle.std.proofs.lemmas.Iterator.{YieldsList-from_slice}
+use Rattle.std.proofs.lemmas.Iterator.Consumers.{YieldsList-at, count_from_yields_List}
+use Rattle.std.proofs.lemmas.Iterator.Search.{YieldsList-from_take_while}
 use Rattle.address.specs.Text.{blank}
 use Rattle.address.proofs.text.trim_start.Goals as goal
-use Rattle.address.proofs.text.trim_start.Goals.{then-loop-i-test+else-is_blank, else-loop-i-test}
-
-pub loop-i-preserved : goal.loop-i-preserved
-loop-i-preserved c = grind (arith, prefix_len-drop_yes blank)
 
 pub returns : goal.returns
 returns c =
-    let e : prefix_len blank c.args.text.now ≡ c.loop-i.i =
-    elim c.loop-i-test.branch [
-      | then-loop-i-test+else-is_blank w ↦ grind (arith, prefix_len-drop_no blank)
-      | else-loop-i-test w ↦ grind (arith, prefix_len-drop_all blank)
-    ] in
-    take_rest c.args.text.now c.loop-i.i ∙ ap (λ i. drop i c.args.text.now) (sym e)
+    let t = c.args.text.now in
+    take_rest t _ ∙ ap (λ n. drop n t) (count_from_yields_List c.take_while.result _ c.count-blanks.ensures.ran (YieldsList-from_take_while _ blank (YieldsList-at c.take_while.ensures.source (YieldsList-from_slice t cc)) c.take_while.ensures.closure c.take_while.ensures.done (λ x b q k. search (rules, tests))) ∙ length-prefix_len blank t)

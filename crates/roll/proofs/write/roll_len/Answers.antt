@@ -1,16 +1,9 @@
-use Rattle.std.proofs.Common.{ℕ, map, Err, Result, sym, ap, ◌∙◌, arith, Bor}
+use Rattle.std.proofs.Common.{map, sym, arith, Bor}
 use Rattle.std.proofs.lemmas.List.{length-map}
+use Rattle.std.proofs.Math.ListN.{get_or-map}
 use Rattle.address.specs.Text.{Text}
-use Rattle.roll.specs.declared.write.WriteFault.{WriteFault}
-use Rattle.roll.specs.declared.write.WriteFault.TheVariants.{Count}
-use Rattle.roll.proofs.Sized.{get_d_map, sized_none, sized_more, sized_stop, sized_all, size_many, size_long, size_ok}
+use Rattle.roll.proofs.Sized.{sized_none, sized_more, sized_stop, sized_all, size_long, size_ok}
 use Rattle.roll.proofs.write.roll_len.Goals as goal
-
-pub returns-then-texts-ge-WORDS : goal.returns-then-texts-ge-WORDS
-returns-then-texts-ge-WORDS c =
-    let l = length-map c.args.texts.now (λ (x : Bor Text). x.now) in
-    let E : ℕ → Result ℕ WriteFault = λ (n : ℕ). Err (Count n) in
-    ap E (sym l) ∙ size_many (map (λ x. x.now) c.args.texts.now) (omega arith)
 
 pub loop-i-init : goal.loop-i-init
 loop-i-init c = sized_none _
@@ -18,13 +11,13 @@ loop-i-init c = sized_none _
 pub loop-i-preserved : goal.loop-i-preserved
 loop-i-preserved c =
     let l = length-map c.args.texts.now (λ (x : Bor Text). x.now) in
-    sized_more c.loop-i.invariant _ (omega arith) (get_d_map (λ x. x.now) c.args.texts.now c.loop-i.i _) c.if-text-ge-WORDS.false
+    sized_more c.loop-i.invariant _ (omega arith) (sym (get_or-map (λ x. x.now) c.args.texts.now c.loop-i.i _)) c.if-text-ge-WORDS.false
 
 pub returns-then-text-ge-WORDS : goal.returns-then-text-ge-WORDS
 returns-then-text-ge-WORDS c =
     let l = length-map c.args.texts.now (λ (x : Bor Text). x.now) in
     size_long (map (λ x. x.now) c.args.texts.now) c.loop-i.i (omega arith)
-    (sized_stop c.loop-i.invariant _ (omega arith) (get_d_map (λ x. x.now) c.args.texts.now c.loop-i.i _) c.if-text-ge-WORDS.true)
+    (sized_stop c.loop-i.invariant _ (omega arith) (sym (get_or-map (λ x. x.now) c.args.texts.now c.loop-i.i _)) c.if-text-ge-WORDS.true)
 
 pub returns : goal.returns
 returns c =

@@ -1,7 +1,0 @@
-use Rattle.std.proofs.Common.{arith}
-use Rattle.std.proofs.lemmas.List.{take_rest}
-use Rattle.std.proofs.lemmas.Bool.Decides.{nat_tests}
-use Rattle.roll.proofs.reading.read_text.Goals as goal
-
-pub returns : goal.returns
-returns c = grind (arith, nat_tests, take_rest)
