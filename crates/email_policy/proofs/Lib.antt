@@ -6,3 +6,5 @@ pub mod OwnTexts
 pub mod Places
 pub mod Records
 pub mod Orders
+pub mod FewTexts
+pub mod Nth

@@ -1,10 +1,11 @@
 -- The order of keys.
-use Rattle.std.proofs.Common.{◌≡◌, ℕ, ◌<◌, Bool, true, false, cond, not, ◌&&◌, ◌||◌, ltb, ◌⊎◌, [], ◌∷◌, is_some, Some, None, Option, sym, refl, ◌∙◌, subst, inl, inr, ⊎_elim, arith}
+use Rattle.std.proofs.Common.{◌≡◌, ℕ, ◌<◌, Bool, true, false, cond, not, ◌&&◌, ◌||◌, ltb, ◌⊎◌, [], ◌∷◌, Some, None, Option, sym, refl, ◌∙◌, subst, inl, inr, ⊎_elim, arith}
 use Rattle.std.specs.Str.{bytes_eq}
 use Rattle.std.proofs.lemmas.Slice.Eq.{bytes_eq-Decides}
 use Rattle.std.proofs.lemmas.Bool.{both_ways, le-ltb, lt-ltb, eq-eqb, and_parts, and_from, and_right, or_cases, or_from, or_left, or_right, cases_order}
 use Rattle.std.proofs.lemmas.Bool.Decides.{nat_tests}
-use Rattle.address.specs.Text.{Text, blank, trimmed, first_place}
+use Rattle.std.specs.List.{list_any}
+use Rattle.address.specs.Text.{Text, blank, trimmed}
 use Rattle.address.specs.Address.{bare, sides}
 use Rattle.email_policy.specs.declared.fault.KeyFault.{KeyFault}
 use Rattle.email_policy.specs.declared.fault.KeyFault.TheVariants.{NoBare, Sides}
@@ -93,7 +94,7 @@ some-bare : (at : ℕ) (t : Text) (s : Option (Text × Text)) (own : Text) → k
 unfolding before
 some-bare at t None own h = let z : ◌≡◌ {A = ℕ} 0 1 = cc in absurd (omega arith)
 some-bare at t (Some s) (b ∷ own) h = refl
-some-bare at t (Some s) [] h = absurd (refused (good_sides s && not (is_some (first_place blank t))) h)
+some-bare at t (Some s) [] h = absurd (refused (good_sides s && not (list_any blank t)) h)
   where
     refused : (x : Bool) → ◌≡◌ {A = Option KeyFault} (cond x (Some (NoBare at)) (Some (Sides at))) None → ⊥
     refused true k = let z : ◌≡◌ {A = ℕ} 0 1 = cc in omega arith

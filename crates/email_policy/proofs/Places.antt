@@ -1,8 +1,9 @@
 -- What passes a question at one place passes it at every place.
-use Rattle.std.proofs.Common.{◌≡◌, ℕ, ◌+◌, Bool, true, false, cond, not, ◌&&◌, ltb, List, [], ◌∷◌, length, take, is_some, Some, None, Ok, Err, Option, Result, refl, ◌∙◌, arith}
+use Rattle.std.proofs.Common.{◌≡◌, ℕ, ◌+◌, Bool, true, false, cond, not, ◌&&◌, ltb, List, [], ◌∷◌, length, take, Some, None, Ok, Err, Option, Result, refl, ◌∙◌, arith}
 use Rattle.std.specs.Str.{bytes_eq}
 use Rattle.std.proofs.lemmas.Bool.{cond-false}
-use Rattle.address.specs.Text.{Text, blank, trimmed, empty, first_place, text_fault}
+use Rattle.std.specs.List.{list_any}
+use Rattle.address.specs.Text.{Text, blank, trimmed, empty, text_fault}
 use Rattle.address.specs.Address.{bare, sides}
 use Rattle.address.specs.declared.text.TextFault.{TextFault}
 use Rattle.roll.specs.Reading.{texts_fault}
@@ -55,7 +56,7 @@ length_passes (Err f) s n a b m h = let z : ◌≡◌ {A = ℕ} 0 1 = cc in absu
 
 form_passes : (t : Text) (s : Option (Text × Text)) (own : Text) (a b : ℕ) → key_form a t s own ≡ None → key_form b t s own ≡ None
 form_passes t None own a b h = let z : ◌≡◌ {A = ℕ} 0 1 = cc in absurd (omega arith)
-form_passes t (Some s) own a b h = both (good_sides s && not (is_some (first_place blank t))) (empty own) h
+form_passes t (Some s) own a b h = both (good_sides s && not (list_any blank t)) (empty own) h
   where
     both : (x y : Bool) → ◌≡◌ {A = Option KeyFault} (cond x (cond y (Some (NoBare a)) None) (Some (Sides a))) None → ◌≡◌ {A = Option KeyFault} (cond x (cond y (Some (NoBare b)) None) (Some (Sides b))) None
     both true true k = let z : ◌≡◌ {A = ℕ} 0 1 = cc in absurd (omega arith)

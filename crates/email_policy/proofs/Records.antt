@@ -1,22 +1,22 @@
 -- The law of records, both ways.
-use Rattle.std.proofs.Common.{◌≡◌, ℕ, ◌+◌, ◌%◌, ◌≤◌, Bool, true, false, cond, ◌&&◌, ltb, leb, List, [], ◌∷◌, ◌++◌, length, get_or, is_some, Some, None, Ok, Err, Option, Result, unwrap_or, sym, refl, ap, ◌∙◌, subst, arith, MatchResult}
+use Rattle.std.proofs.Common.{◌≡◌, ℕ, ◌+◌, ◌%◌, ◌≤◌, Bool, true, false, cond, ◌&&◌, ltb, leb, List, [], ◌∷◌, ◌++◌, length, get_or, is_some, Some, None, Ok, Err, Option, unwrap_or, sym, refl, ap, ◌∙◌, subst, arith}
 use Rattle.std.proofs.lemmas.List.{length-append}
-use Rattle.std.proofs.lemmas.Bool.{le-leb, leb-true, le-ltb, ltb-false, cond-true, cond-false, cond_both}
+use Rattle.std.proofs.lemmas.Bool.{le-leb, leb-true, cond-true}
 use Rattle.address.specs.Text.{Text}
-use Rattle.roll.specs.Ends.{after}
+use Rattle.roll.specs.Ends.{after, filled}
 use Rattle.roll.specs.Laws.{Bytes, Stands}
 use Rattle.roll.proofs.Standing.{join, front, back, one, stands_whole, whole_stands}
 use Rattle.roll.proofs.Parts.{passed, went, ok_same}
+use Rattle.roll.proofs.Wholes.{filled_read, filled_whole}
 use Rattle.email_policy.specs.declared.policy.ReplyTo.{ReplyTo}
 use Rattle.email_policy.specs.declared.policy.PositiveReviewPolicy.{PositiveReviewPolicy}
-use Rattle.email_policy.specs.declared.fault.RecordFault.{RecordFault}
 use Rattle.email_policy.specs.declared.fault.RecordFault.TheVariants.{TooLong, LeftOver}
 use Rattle.email_policy.specs.Policy.{ListPolicy}
 use Rattle.email_policy.specs.Numbers.{reply_number, rank_number, mute_number, has_bit, reply_of, rank_of, mute_of}
 use Rattle.email_policy.specs.Packing.{pack_field, pack_part, some_text, bit_map, pack_policy}
-use Rattle.email_policy.specs.Ends.{RecordEnd, byte_end, part_end, if_bit, fields_end, record_place, longest_record, capped, record_end, filled, whole_record}
+use Rattle.email_policy.specs.Ends.{RecordEnd, byte_end, part_end, if_bit, fields_end, record_place, longest_record, capped, record_end}
 use Rattle.email_policy.specs.Reading.{field_at, past, end_or, rank_place, mute_place, cc_place, ignored_place, read_policy}
-use Rattle.email_policy.specs.Law.{Within, Complete, ReadsPolicies, PacksPolicies, Packed, ReadsWhole, PacksWhole, DefaultsReadBack}
+use Rattle.email_policy.specs.Law.{Within, Complete, ReadsPolicies, PacksPolicies, ReadsWhole, PacksWhole, DefaultsReadBack}
 use Rattle.email_policy.proofs.Numbers.{Numbered, replies, ranks, mutes, Bits, bits_of_sum, low_bits, sum_of_bits, full_bits}
 use Rattle.email_policy.proofs.Parts.{reads_field, packs_field, ReadPart, reads_part, packs_part, reads_map, packs_map}
 
@@ -157,32 +157,18 @@ packs_policy full bs a e p i s =
 
 -- all of the slice
 
-pub filled_read : (bs : List ℕ) (r : RecordEnd) → filled bs r ≡ Ok tt → (e : ℕ) × (r ≡ Ok e) × (length bs ≤ e)
-filled_read bs (Ok e) h =
-    let P : Result (Unit {0}) RecordFault → Type 0 = λ o. o ≡ Ok tt → (x : ℕ) × (◌≡◌ {A = RecordEnd} (Ok e) (Ok x)) × (length bs ≤ x) in
-    cond_both (ltb e (length bs)) (Err (LeftOver e)) (Ok tt) P
-    (λ t k. let z : ◌≡◌ {A = ℕ} 0 1 = cc in absurd (omega arith))
-    (λ t k. (e, refl, ltb-false e (length bs) t))
-    h
-filled_read bs (Err f) h = let z : ◌≡◌ {A = ℕ} 0 1 = cc in absurd (omega arith)
-
 pub reads_whole : ReadsWhole
 reads_whole full bs b h =
-    let p = filled_read bs (record_end full bs 0) h in
+    let p = went (record_end full bs 0) (filled LeftOver bs) tt h in
     let r = reads_policy full bs 0 p.0 b p.1 in
-    let e : p.0 ≡ length bs = omega (arith, p.2, r.0.within) in
+    let e : p.0 ≡ length bs = omega (arith, filled_read LeftOver bs p.0 p.2, r.0.within) in
     record { within = r.1; packed = stands_whole bs (pack_policy (read_policy bs 0)) (subst (λ (x : ℕ). Stands bs 0 (pack_policy (read_policy bs 0)) x) e r.0) }
 
 pub packs_whole : PacksWhole
 packs_whole full bs p k =
     let s : Stands bs 0 (pack_policy p) (length bs) = rw k.packed (whole_stands bs) in
     let r = packs_policy full bs 0 (length bs) p k.within s in
-    (ap (filled bs) r.0 ∙ cond-false _ _ _ (le-ltb (length bs) (length bs) (omega arith)), r.1)
-
-module _ (full : Bool) (bs : List ℕ) where
-  pub either_way : (r : Result (Unit {0}) RecordFault) → Bytes bs → r ≡ whole_record full bs → MatchResult r (λ _. Packed full bs (read_policy bs 0)) (λ _. (p : ListPolicy) → Packed full bs p → ⊥)
-  either_way (Ok u) b h = reads_whole full bs b (sym h)
-  either_way (Err f) b h = λ p k. let w = (packs_whole full bs p k).0 in let z : ◌≡◌ {A = ℕ} 0 1 = cc in omega arith
+    (ap (λ e. after e (filled LeftOver bs)) r.0 ∙ filled_whole LeftOver bs, r.1)
 
 -- the defaults
 

@@ -1,6 +1,6 @@
 -- Where each part of a packed record ends, or its leftmost fault.
 use Rattle.std.specs.Prelude.{ℕ, ◌+◌, ◌%◌, Bool, true, false, cond, not, ◌&&◌, ◌||◌, List, length, Ok, Err, Result, ◌==◌, nat_le, nat_lt, slice_index}
-use Rattle.roll.specs.Ends.{after, roll_end}
+use Rattle.roll.specs.Ends.{after, filled, roll_end}
 use Rattle.roll.specs.Faults.{roll_place}
 use Rattle.roll.specs.declared.fault.RollFault.{RollFault}
 use Rattle.roll.specs.declared.limits.Limits.{Limits}
@@ -63,9 +63,5 @@ abbrev pub record_end : Bool → List ℕ → ℕ → RecordEnd
 record_end full bs at = capped (length bs) (at + longest_record) (fields_end full bs at)
 
 -- a record that is all of its slice
-abbrev pub filled : List ℕ → RecordEnd → Result (Unit {0}) RecordFault
-filled bs (Ok e) = cond (nat_lt e (length bs)) (Err (LeftOver e)) (Ok tt)
-filled bs (Err f) = Err f
-
 abbrev pub whole_record : Bool → List ℕ → Result (Unit {0}) RecordFault
-whole_record full bs = filled bs (record_end full bs 0)
+whole_record full bs = after (record_end full bs 0) (filled LeftOver bs)

@@ -1,6 +1,7 @@
 -- What a key must be, and the order of keys.
-use Rattle.std.specs.Prelude.{◌≡◌, ℕ, ◌+◌, Bool, true, false, cond, not, ◌&&◌, ◌||◌, ◌⊎◌, [], ◌∷◌, length, take, is_some, Some, None, Ok, Err, Option, Result, ◌==◌, nat_eq, nat_lt}
-use Rattle.address.specs.Text.{Text, blank, trimmed, empty, first_place, text_fault}
+use Rattle.std.specs.Prelude.{◌≡◌, ℕ, ◌+◌, Bool, true, false, cond, not, ◌&&◌, ◌||◌, ◌⊎◌, [], ◌∷◌, length, take, Some, None, Ok, Err, Option, Result, ◌==◌, nat_eq, nat_lt}
+use Rattle.std.specs.List.{list_any}
+use Rattle.address.specs.Text.{Text, blank, trimmed, empty, text_fault}
 use Rattle.address.specs.Address.{bare, same_bare, sides}
 use Rattle.address.specs.declared.text.TextFault.{TextFault}
 use Rattle.email_policy.specs.declared.fault.KeyFault.{KeyFault}
@@ -19,13 +20,13 @@ key_text first key = key_length first (text_fault first (take longest_key key)) 
 
 -- of the sides of a key's `@`: neither is empty, and the right one has a dot (46)
 abbrev pub good_sides : Text × Text → Bool
-good_sides s = not (empty s.0) && (not (empty s.1) && is_some (first_place (λ b. nat_eq b 46) s.1))
+good_sides s = not (empty s.0) && (not (empty s.1) && list_any (λ b. nat_eq b 46) s.1)
 
 -- of a trimmed key with its bare: an `@` outside the quoted parts, good sides and no blank inside, and some bare
 abbrev pub key_form : ℕ → Text → Option (Text × Text) → Text → Option KeyFault
 key_form at t None own = Some (NoAt at)
 key_form at t (Some s) own =
-    cond (good_sides s && not (is_some (first_place blank t))) (cond (empty own) (Some (NoBare at)) None) (Some (Sides at))
+    cond (good_sides s && not (list_any blank t)) (cond (empty own) (Some (NoBare at)) None) (Some (Sides at))
 
 abbrev pub or_else : {X : Type 0} → Option X → Option X → Option X
 or_else (Some x) next = Some x

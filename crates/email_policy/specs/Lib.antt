@@ -10,3 +10,6 @@ pub mod Lawful
 pub mod Reports
 pub mod Source
 pub mod Examples
+pub mod Texts
+pub mod Words
+pub mod TextsLeft

@@ -72,10 +72,8 @@ impl RecordFault {
         ensures { result ≡ record_place self.now }
     {
         match self {
-            RecordFault::Field(at) => *at,
+            RecordFault::Field(at) | RecordFault::TooLong(at) | RecordFault::LeftOver(at) => *at,
             RecordFault::InRoll(fault) => fault.place(),
-            RecordFault::TooLong(at) => *at,
-            RecordFault::LeftOver(at) => *at,
         }
     }
 }

@@ -26,12 +26,12 @@ pub enum PositiveReviewPolicy {
     All,
 }
 
-impl ReplyTarget {
-    /// The number of the target, a bit of its own.
-    pub fn number(self) -> u8
-        ensures { result ≡ target_number self }
-    {
-        match self {
+/// The number of the target, a bit of its own.
+impl From<ReplyTarget> for u8 {
+    ghost from_gives = { λ t n. n ≡ target_number t };
+
+    fn from(target: ReplyTarget) -> u8 {
+        match target {
             ReplyTarget::Author => 1,
             ReplyTarget::List => 2,
             ReplyTarget::Recipients => 4,
@@ -57,24 +57,23 @@ impl ReplyTo {
             ReplyTarget::Recipients => self.recipients,
         }
     }
+}
 
-    /// The sum of the targets' numbers.
-    pub fn number(self) -> u8
-        ensures { result ≡ reply_number self }
-    {
-        let author = if self.author { 1 } else { 0 };
-        let list = if self.list { 2 } else { 0 };
-        let recipients = if self.recipients { 4 } else { 0 };
-        author + (list + recipients)
+/// The sum of the targets' numbers.
+impl From<ReplyTo> for u8 {
+    ghost from_gives = { λ r n. n ≡ reply_number r };
+
+    fn from(reply: ReplyTo) -> u8 {
+        u8::from(reply.author) + (2 * u8::from(reply.list) + 4 * u8::from(reply.recipients))
     }
 }
 
-impl PositiveReviewPolicy {
-    /// The number of the case, higher for a higher one.
-    pub fn number(self) -> u8
-        ensures { result ≡ rank_number self }
-    {
-        match self {
+/// The number of the case, higher for a higher one.
+impl From<PositiveReviewPolicy> for u8 {
+    ghost from_gives = { λ p n. n ≡ rank_number p };
+
+    fn from(rank: PositiveReviewPolicy) -> u8 {
+        match rank {
             PositiveReviewPolicy::None => 0,
             PositiveReviewPolicy::Author => 1,
             PositiveReviewPolicy::All => 2,

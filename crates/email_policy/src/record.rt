@@ -30,13 +30,10 @@ fn byte_end(bytes: &[u8], at: usize, stands: bool, max: u8) -> Result<usize, Rec
     if !stands {
         return Ok(at);
     }
-    if at >= bytes.len() {
-        return Err(RecordFault::Field(at));
+    match bytes.get(at) {
+        Some(byte) if *byte <= max => Ok(at + 1),
+        _ => Err(RecordFault::Field(at)),
     }
-    if bytes[at] > max {
-        return Err(RecordFault::Field(at));
-    }
-    Ok(at + 1)
 }
 
 /// The end of a roll that is there only if its bit stands.
@@ -48,8 +45,7 @@ fn part_end(bytes: &[u8], at: usize, stands: bool) -> Result<usize, RecordFault>
     if !stands {
         return Ok(at);
     }
-    let end = roll_end(IN_RECORD, bytes, at)?;
-    Ok(end)
+    Ok(roll_end(IN_RECORD, bytes, at)?)
 }
 
 /// The end of the bit map, which has no unknown bit, and in the defaults (`full`) the first three.
@@ -57,18 +53,10 @@ fn map_end(bytes: &[u8], at: usize, full: bool) -> Result<usize, RecordFault>
     ensures value { result ≡ map_end full bytes.now at }
     ensures bound { IfOk result (λ e. (at + 1 ≡ e) × (e ≤ length bytes.now)) }
 {
-    if at >= bytes.len() {
-        return Err(RecordFault::Field(at));
+    match bytes.get(at) {
+        Some(map) if *map < 32 && (!full || *map % 8 == 7) => Ok(at + 1),
+        _ => Err(RecordFault::Field(at)),
     }
-    if bytes[at] >= 32 {
-        return Err(RecordFault::Field(at));
-    }
-    if full {
-        if bytes[at] % 8 != 7 {
-            return Err(RecordFault::Field(at));
-        }
-    }
-    Ok(at + 1)
 }
 
 /// The end of the record at a place, however long it is.
@@ -98,11 +86,9 @@ pub fn record_end(bytes: &[u8], at: usize, full: bool) -> Result<usize, RecordFa
             Ok(end)
         }
         Err(fault) => {
-            if bytes.len().saturating_sub(at) <= LONGEST_RECORD {
-                return Err(fault);
-            }
+            let rest = bytes.len().saturating_sub(at);
             // the leftmost fault, and at one place the limit
-            if fault.place() < at + LONGEST_RECORD {
+            if rest <= LONGEST_RECORD || fault.place() < at + LONGEST_RECORD {
                 return Err(fault);
             }
             Err(RecordFault::TooLong(at + LONGEST_RECORD))

@@ -27,12 +27,12 @@ impl Report {
     }
 }
 
-impl RecordFault {
-    /// The number of a fault of a record: 12 for a bad byte in a text, else 11.
-    pub fn report(&self) -> Report
-        ensures { result ≡ record_report self.now }
-    {
-        match self {
+/// The number of a fault of a record: 12 for a bad byte in a text, else 11.
+impl From<RecordFault> for Report {
+    ghost from_gives = { λ f r. r ≡ record_report f };
+
+    fn from(fault: RecordFault) -> Report {
+        match fault {
             RecordFault::InRoll(RollFault::InText(bad)) => Report::new(
                 12,
                 Layer::Text,
@@ -45,30 +45,30 @@ impl RecordFault {
     }
 }
 
-impl KeyFault {
-    /// The number of a fault of a key: 7 to 10, in the order of the questions.
-    pub fn report(&self) -> Report
-        ensures { result ≡ key_report self.now }
-    {
-        match self {
-            KeyFault::TooLong(at) => Report::new(7, Layer::Book, Part::Key, *at),
+/// The number of a fault of a key: 7 to 10, in the order of the questions.
+impl From<KeyFault> for Report {
+    ghost from_gives = { λ f r. r ≡ key_report f };
+
+    fn from(fault: KeyFault) -> Report {
+        match fault {
+            KeyFault::TooLong(at) => Report::new(7, Layer::Book, Part::Key, at),
             KeyFault::InText(fault) => Report::new(7, Layer::Text, Part::Key, fault.place),
-            KeyFault::NoAt(at) => Report::new(8, Layer::Book, Part::Key, *at),
-            KeyFault::Sides(at) => Report::new(9, Layer::Book, Part::Key, *at),
-            KeyFault::NoBare(at) => Report::new(10, Layer::Book, Part::Key, *at),
+            KeyFault::NoAt(at) => Report::new(8, Layer::Book, Part::Key, at),
+            KeyFault::Sides(at) => Report::new(9, Layer::Book, Part::Key, at),
+            KeyFault::NoBare(at) => Report::new(10, Layer::Book, Part::Key, at),
         }
     }
 }
 
-impl PolicyFault {
-    /// The number of the fault of the key or the record, and 13 for a list's own address in its cc.
-    pub fn report(&self) -> Report
-        ensures { result ≡ policy_report self.now }
-    {
-        match self {
-            PolicyFault::Key(fault) => fault.report(),
-            PolicyFault::Record(fault) => fault.report(),
-            PolicyFault::OwnAddress(at) => Report::new(13, Layer::Book, Part::Record, *at),
+/// The number of the fault of the key or the record, and 13 for a list's own address in its cc.
+impl From<PolicyFault> for Report {
+    ghost from_gives = { λ f r. r ≡ policy_report f };
+
+    fn from(fault: PolicyFault) -> Report {
+        match fault {
+            PolicyFault::Key(fault) => fault.into(),
+            PolicyFault::Record(fault) => fault.into(),
+            PolicyFault::OwnAddress(at) => Report::new(13, Layer::Book, Part::Record, at),
         }
     }
 }

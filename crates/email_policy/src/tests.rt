@@ -33,35 +33,45 @@ const PLACED: &[u8] = b"\xff\x1f\x05\x01\x01\0\x02\0\x01a\0\x02bc\0\x01\0\x01\n"
 fn fields(rt: HostRuntime) {
     assert_eq!(rt; record_end(PLACED, 1, true), Ok(19));
     assert!(rt;
-        reply_to(PLACED, 1) == Some(reply_of(5)) && reply_to(PLACED, 2) == Some(reply_of(1))
+        Record::new(PLACED, 1).reply_to() == Some(reply_of(5))
+            && Record::new(PLACED, 2).reply_to() == Some(reply_of(1))
     );
-    assert!(rt; positive_review(PLACED, 1) == Some(PositiveReviewPolicy::Author));
-    assert_eq!(rt; mute_all(PLACED, 1), Some(true));
-    assert_eq!(rt; cc(PLACED, 1, 1), Some(b"bc".as_slice()));
-    assert_eq!(rt; ignored_email(PLACED, 1, 0), Some(b"\n".as_slice()));
-    assert_eq!(rt; cc(PLACED, 99, 0), None);
-    assert_eq!(rt; own_address(PLACED, 1, b"<BC>"), Some(10));
+    assert!(rt; Record::new(PLACED, 1).positive_review() == Some(PositiveReviewPolicy::Author));
+    assert_eq!(rt; Record::new(PLACED, 1).mute_all(), Some(true));
+    assert_eq!(rt; Record::new(PLACED, 1).cc(1), Some(b"bc".as_slice()));
+    assert_eq!(rt;
+        Record::new(PLACED, 1).ignored_email(0),
+        Some(b"\n".as_slice())
+    );
+    assert_eq!(rt; Record::new(PLACED, 99).cc(0), None);
+    assert_eq!(rt;
+        Record::new(PLACED, 1).check_cc(b"<BC>"),
+        Err(PolicyFault::OwnAddress(10))
+    );
     let bad = RollFault::InText(TextFault { place: 18 });
-    assert_eq!(rt; check_bytes(PLACED, 1), Err(RecordFault::InRoll(bad)));
+    assert_eq!(rt;
+        Record::new(PLACED, 1).check_texts(),
+        Err(RecordFault::InRoll(bad))
+    );
 }
 
 // Each key, and what is said of it.
-const KEYS: [(&[u8], Option<KeyFault>); 5] = [
-    (b"l@x.test", None),
-    (b"x.test", Some(KeyFault::NoAt(7))),
-    (b"l@x", Some(KeyFault::Sides(7))),
-    (b"<>@x.y", Some(KeyFault::NoBare(7))),
-    (b"l@\x7f", Some(KeyFault::InText(TextFault { place: 2 }))),
+const KEYS: [(&[u8], Result<(), KeyFault>); 5] = [
+    (b"l@x.test", Ok(())),
+    (b"x.test", Err(KeyFault::NoAt(7))),
+    (b"l@x", Err(KeyFault::Sides(7))),
+    (b"<>@x.y", Err(KeyFault::NoBare(7))),
+    (b"l@\x7f", Err(KeyFault::InText(TextFault { place: 2 }))),
 ];
 
 #[test]
 fn keys(rt: HostRuntime) {
-    for (key, fault) in KEYS {
-        assert_eq!(rt; key_fault(key, 7, 0, key.len()), fault);
+    for (key, said) in KEYS {
+        assert_eq!(rt; check_key(key, 7, 0, key.len()), said);
     }
     assert!(rt; rises(b"z <a@x.test>", b"b@x.test") && rises(b"A@x.test", b"a@x.test"));
     assert!(rt; !rises(b"a@x.test", b"a@x.test") && !rises(b"b@x.test", b"A@x.test"));
-    let told = PolicyFault::Key(KeyFault::Sides(7)).report();
+    let told = Report::from(PolicyFault::Key(KeyFault::Sides(7)));
     assert!(rt;
         told == Report {
             number: 9,

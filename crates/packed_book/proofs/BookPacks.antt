@@ -1,15 +1,16 @@
 -- The packed book of a lawful policy is accepted, and read back as it.
-use Rattle.std.proofs.Common.{◌≡◌, ℕ, ◌+◌, ◌≤◌, Bool, true, false, ltb, List, [], ◌∷◌, ◌++◌, length, Some, None, Ok, Err, Option, Result, sym, refl, ap, ◌∙◌, subst, arith, MatchResult}
-use Rattle.std.proofs.lemmas.Bool.{le-leb, le-ltb, ltb-false, and_from, cond-true, cond-false, cond_both}
+use Rattle.std.proofs.Common.{◌≡◌, ℕ, ◌+◌, ◌≤◌, Bool, true, false, ltb, List, [], ◌∷◌, ◌++◌, length, Some, None, Ok, Err, Option, Result, sym, refl, ap, ◌∙◌, subst, arith}
+use Rattle.std.proofs.lemmas.Bool.{le-leb, ltb-false, and_from, cond-true, cond_both}
 use Rattle.std.specs.List.{flat_map}
 use Rattle.address.specs.Text.{Text}
 use Rattle.address.specs.Address.{bare}
 use Rattle.address.specs.declared.text.TextFault.{TextFault}
-use Rattle.roll.specs.Ends.{after, word_at}
-use Rattle.roll.specs.Laws.{Bytes, Stands}
+use Rattle.roll.specs.Ends.{after, word_at, filled}
+use Rattle.roll.specs.Laws.{Stands}
 use Rattle.roll.specs.Packing.{word, pack_text}
 use Rattle.roll.proofs.Standing.{front, back, taken, whole_stands}
 use Rattle.roll.proofs.Parts.{packs_word, packs_text, text_ended}
+use Rattle.roll.proofs.Wholes.{filled_whole}
 use Rattle.email_policy.specs.Ends.{record_end}
 use Rattle.email_policy.specs.Keys.{longest_key, key_length, key_text, key_fault, rises}
 use Rattle.email_policy.specs.Lawful.{Fine, FineEntry, Rising, pack_entry, pack_book, Lawful, longest_book}
@@ -22,12 +23,11 @@ use Rattle.email_policy.specs.declared.fault.KeyFault.TheVariants.{TooLong}
 use Rattle.email_policy.specs.declared.fault.RecordFault.{RecordFault}
 use Rattle.email_policy.proofs.Records.{packs_policy}
 use Rattle.email_policy.proofs.Places.{bytes_pass, own_passes, key_passes, else_parts}
-use Rattle.packed_book.specs.declared.fault.OpenFault.{OpenFault}
-use Rattle.packed_book.specs.Ends.{BookEnd, any_text, all_there, asked, in_policy, bytes_question, key_at, policy_end, list_end, lists_end, count_end, filled, whole_book}
+use Rattle.packed_book.specs.declared.fault.OpenFault.TheVariants.{LeftOver}
+use Rattle.packed_book.specs.Ends.{BookEnd, any_text, all_there, asked, in_policy, bytes_question, key_at, policy_end, list_end, lists_end, count_end, whole_book}
 use Rattle.packed_book.specs.Reading.{policy_place, next_place, entry_at, entries_at, count_place, read_book}
-use Rattle.packed_book.specs.Laws.{Packed, PacksBooks}
+use Rattle.packed_book.specs.Laws.{PacksBooks}
 use Rattle.packed_book.specs.Questions.{passed_list}
-use Rattle.packed_book.specs.BookReads.{reads_book}
 
 -- a key that passes its question is short
 length_short : (first n : ℕ) (r : Result (Unit {0}) TextFault) → key_length first r n ≡ None → n ≤ longest_key
@@ -103,12 +103,11 @@ lists_packed (l ∷ ls) last bs at e i s =
 -- the parts of a book, each accepted, are a book
 book_chain : (bs : List ℕ) (c : ℕ) → length bs ≤ longest_book → policy_end true bs 0 ≡ Ok c → count_end bs c ≡ Ok (c + 2) → lists_end (word_at bs c) [] bs (c + 2) ≡ Ok (length bs) → whole_book bs ≡ Ok tt
 book_chain bs c l f k s =
-    let z : ltb (length bs) (length bs) ≡ false = le-ltb (length bs) (length bs) (omega arith) in
     cond-true _ _ _ (le-leb _ _ l)
-    ∙ ap (λ (y : BookEnd). after y (λ c. after (count_end bs c) (λ at. after (lists_end (word_at bs c) [] bs at) (filled bs)))) f
-    ∙ ap (λ (y : BookEnd). after y (λ at. after (lists_end (word_at bs c) [] bs at) (filled bs))) k
-    ∙ ap (λ (y : BookEnd). after y (filled bs)) s
-    ∙ cond-false _ _ _ z
+    ∙ ap (λ (y : BookEnd). after y (λ c. after (count_end bs c) (λ at. after (lists_end (word_at bs c) [] bs at) (filled LeftOver bs)))) f
+    ∙ ap (λ (y : BookEnd). after y (λ at. after (lists_end (word_at bs c) [] bs at) (filled LeftOver bs))) k
+    ∙ ap (λ (y : BookEnd). after y (filled LeftOver bs)) s
+    ∙ filled_whole LeftOver bs
 
 policy_same : (p : Policy) (d : DefaultPolicy) (ls : List Entry) → d ≡ p.defaults → ls ≡ p.lists → ◌≡◌ {A = Policy} (record { defaults = d; lists = ls }) p
 policy_same p d ls i j = rw (i, j)
@@ -139,8 +138,3 @@ packs_book bs p k =
     let e = k.packed in
     let small = k.lawful.small in
     book_packed bs p k.lawful (omega (arith, ap length e)) (subst (λ (x : List ℕ). Stands bs 0 x (length bs)) (sym e) (whole_stands bs))
-
-module _ (bs : List ℕ) where
-  pub either_way : (r : Result (Unit {0}) OpenFault) → Bytes bs → r ≡ whole_book bs → MatchResult r (λ _. Packed bs (read_book bs)) (λ _. (p : Policy) → Packed bs p → ⊥)
-  either_way (Ok u) b h = reads_book bs b (sym h)
-  either_way (Err f) b h = λ p k. let w = (packs_book bs p k).0 in let z : ◌≡◌ {A = ℕ} 0 1 = cc in omega arith

@@ -1,5 +1,4 @@
 pub mod BookPacks
-pub mod Keys
 pub mod Puts
 pub mod Rows
 pub mod Views

@@ -7,34 +7,15 @@ use Rattle.std.specs.Option.{option_map}
 use Rattle.address.specs.Text.{Text}
 use Rattle.roll.specs.Packing.{word, pack_text, pack_texts}
 use Rattle.roll.proofs.Writes.{written_is}
-use Rattle.email_policy.specs.Lawful.{FineEntry, Rising, Lawful, pack_entry, pack_book}
+use Rattle.email_policy.specs.Lawful.{pack_entry, pack_book}
 use Rattle.email_policy.specs.Numbers.{weighed, reply_number, rank_number, mute_number}
 use Rattle.email_policy.specs.Packing.{pack_field, some_text, pack_part, bit_map, pack_policy, as_list}
 use Rattle.email_policy.specs.Policy.{ListPolicy, Entry, Policy}
-use Rattle.packed_book.specs.declared.write.Whose.{Whose}
-use Rattle.packed_book.specs.declared.write.Whose.TheVariants.{Defaults, List as Listed}
-use Rattle.packed_book.specs.declared.write.Part.{Part}
-use Rattle.packed_book.specs.declared.write.Part.TheVariants.{Cc, Ignored}
-use Rattle.packed_book.specs.Rows.{listed, record_of, texts_of, byte_row, list_row, Puts}
+use Rattle.email_policy.specs.Texts.{listed}
+use Rattle.email_policy.proofs.Nth.{nth_some}
+use Rattle.packed_book.specs.Rows.{byte_row, list_row, Puts}
 use Rattle.packed_book.specs.Writing.{write_answer, write_tray}
 use Rattle.packed_book.proofs.Puts.{puts_then, Left, left_room, left_more}
-
-pub rising_nth : (es : List Entry) (last : Text) (n : ℕ) (e : Entry) → Rising last es → slice_get es n ≡ Some e → FineEntry e
-rising_nth [] last n e r h = let z : ◌≡◌ {A = ℕ} 0 1 = cc in absurd (omega arith)
-rising_nth (x ∷ es) last zero e r h = let k : x ≡ e = cc in rw (sym k) r.1
-rising_nth (x ∷ es) last (suc n) e r h = rising_nth es x.key n e r.2 h
-
--- a record of a lawful policy has few texts
-pub texts-few : (p : Policy) → Lawful p → (w : Whose) (t : Part) → length (texts_of t (record_of p w)) ≤ 32
-texts-few p l Defaults Cc = l.defaults.within.cc
-texts-few p l Defaults Ignored = l.defaults.within.ignored
-texts-few p l (Listed n) t = at (slice_get p.lists n) refl t
-  where
-    at : (o : Option Entry) → slice_get p.lists n ≡ o → (t : Part) → length (texts_of t (listed o)) ≤ 32
-    at None h Cc = omega arith
-    at None h Ignored = omega arith
-    at (Some e) h Cc = (rising_nth p.lists [] n e l.rising h).policy.within.cc
-    at (Some e) h Ignored = (rising_nth p.lists [] n e l.rising h).policy.within.ignored
 
 -- a roll with its count
 
@@ -48,10 +29,6 @@ part_some (t ∷ ts) n e ne = rw e
 
 pub part_length : (ts : List Text) (n : ℕ) → n ≡ length ts → (n ≡ 0 → ⊥) → length (pack_part ts) ≡ 2 + length (pack_texts ts)
 part_length ts n e ne = ap length (part_some ts n e ne) ∙ length-append (word n) (pack_texts ts)
-
-pub some_first : (ts : List Text) (o : Option Text) → o ≡ slice_get ts 0 → is_some o ≡ some_text ts
-some_first [] o e = ap is_some e
-some_first (t ∷ ts) o e = ap is_some e
 
 pub mapped_some : {X Y : Type 0} (f : X → Y) (o : Option X) → is_some (option_map f o) ≡ is_some o
 mapped_some f None = refl
@@ -113,16 +90,16 @@ list_at (e ∷ es) zero h = (e, refl)
 list_at (x ∷ es) (suc n) h = list_at es n (omega arith)
 
 -- a turn of the walk over the lists
-module _ (es : List Entry) (n : ℕ) (start tray : List ℕ) (at end : ℕ) (l : Left pack_entry es n start tray at end) (h : n < length es) where
+module _ (es : List Entry) (n : ℕ) (start tray : List ℕ) (at end : ℕ) (l : Left pack_entry es (drop n es) start tray at end) (h : n < length es) where
   pub list_room : end + length (list_row (slice_get es n)) ≤ at + length (flat_map pack_entry es)
   list_room =
       let x = list_at es n h in
-      subst (λ (o : Option Entry). end + length (list_row o) ≤ at + length (flat_map pack_entry es)) x.1 (left_room pack_entry es n start tray at end l x.0 x.1)
+      subst (λ (o : Option Entry). end + length (list_row o) ≤ at + length (flat_map pack_entry es)) x.1 (left_room pack_entry es (drop n es) start tray at end l x.0 (drop (n + 1) es) (nth_some es n x.0 x.1).0)
 
-  pub list_more : (tray' : List ℕ) (end' : ℕ) → Puts tray end (list_row (slice_get es n)) tray' → end' ≡ end + length (list_row (slice_get es n)) → length tray' ≡ length tray → Left pack_entry es (n + 1) start tray' at end'
+  pub list_more : (tray' : List ℕ) (end' : ℕ) → Puts tray end (list_row (slice_get es n)) tray' → end' ≡ end + length (list_row (slice_get es n)) → length tray' ≡ length tray → Left pack_entry es (drop (n + 1) es) start tray' at end'
   list_more tray' end' p e k =
       let x = list_at es n h in
-      left_more pack_entry es n start tray at end l x.0 x.1 tray' end'
+      left_more pack_entry es (drop n es) start tray at end l x.0 (drop (n + 1) es) (nth_some es n x.0 x.1).0 tray' end'
       (subst (λ (o : Option Entry). Puts tray end (list_row o) tray') (sym x.1) p)
       (subst (λ (o : Option Entry). end' ≡ end + length (list_row o)) (sym x.1) e)
       k

@@ -1,15 +1,16 @@
 -- A packed book that is accepted is the packed book of the policy that is read from it.
-use Rattle.std.specs.Prelude.{◌≡◌, ℕ, zero, suc, ◌+◌, ◌≤◌, Bool, true, false, List, [], ◌++◌, length, None, Ok, Err, Result, nat_le, nat_lt, refl}
+use Rattle.std.specs.Prelude.{◌≡◌, ℕ, zero, suc, ◌+◌, ◌≤◌, Bool, true, false, List, [], ◌++◌, length, None, Ok, nat_le, refl}
 use Rattle.std.proofs.Common.{sym, ◌∙◌, ap, subst, arith}
-use Rattle.std.proofs.lemmas.Bool.{leb-true, ltb-false, and_parts, cond_both}
+use Rattle.std.proofs.lemmas.Bool.{leb-true, and_parts}
 use Rattle.std.specs.List.{flat_map}
 use Rattle.address.specs.Text.{Text}
 use Rattle.address.specs.Address.{bare}
-use Rattle.roll.specs.Ends.{word_at, text_end}
+use Rattle.roll.specs.Ends.{word_at, text_end, filled}
 use Rattle.roll.specs.Laws.{Bytes, Stands}
 use Rattle.roll.specs.Packing.{word, pack_text}
 use Rattle.roll.proofs.Standing.{join, nothing, stands_whole}
 use Rattle.roll.proofs.Parts.{passed, went, ok_same, text_ended, reads_word, reads_text}
+use Rattle.roll.proofs.Wholes.{filled_read}
 use Rattle.email_policy.specs.Ends.{record_end}
 use Rattle.email_policy.specs.Keys.{rises}
 use Rattle.email_policy.specs.Lawful.{Fine, FineEntry, Rising, pack_entry, pack_book, most_lists, longest_book}
@@ -19,9 +20,8 @@ use Rattle.email_policy.specs.Questions.{bytes_fault, own_place}
 use Rattle.email_policy.specs.Reading.{read_policy, cc_place, ignored_place, as_defaults, end_or}
 use Rattle.email_policy.proofs.Records.{reads_policy, defaults_back}
 use Rattle.email_policy.proofs.Places.{bytes_pass, own_passes, key_passes}
-use Rattle.packed_book.specs.declared.fault.OpenFault.{OpenFault}
 use Rattle.packed_book.specs.declared.fault.OpenFault.TheVariants.{LeftOver}
-use Rattle.packed_book.specs.Ends.{any_text, in_policy, bytes_question, key_at, policy_end, list_end, lists_end, count_end, filled, whole_book}
+use Rattle.packed_book.specs.Ends.{any_text, in_policy, bytes_question, key_at, policy_end, list_end, lists_end, count_end, whole_book}
 use Rattle.packed_book.specs.Reading.{policy_place, next_place, entry_at, entries_at, count_place, read_book}
 use Rattle.packed_book.specs.Laws.{ReadsBooks}
 use Rattle.packed_book.specs.Questions.{told, there_back, policy_back, bytes_back, list_passed}
@@ -88,13 +88,6 @@ lists_read (suc n) last bs at e b l h =
       count = ap suc i.count;
     }
 
-pub filled_read : (bs : List ℕ) (e : ℕ) → filled bs e ≡ Ok tt → length bs ≤ e
-filled_read bs e =
-    let P : Result (Unit {0}) OpenFault → Type 0 = λ o. o ≡ Ok tt → length bs ≤ e in
-    cond_both (nat_lt e (length bs)) (Err (LeftOver e)) (Ok tt) P
-    (λ t k. let z : ◌≡◌ {A = ℕ} 0 1 = cc in absurd (omega arith))
-    (λ t k. ltb-false e (length bs) t)
-
 pub record ReadCount (bs : List ℕ) (c e : ℕ) : Type 0 where
   pub there : c + 2 ≤ length bs
   pub few : word_at bs c ≤ most_lists
@@ -120,11 +113,11 @@ opened bs b h =
     let d = policy_read true bs 0 w.0 b w.1 in
     let v = went (count_end bs w.0) _ tt w.2 in
     let k = count_read bs w.0 v.0 v.1 in
-    let u = went (lists_end (word_at bs w.0) [] bs v.0) (filled bs) tt v.2 in
+    let u = went (lists_end (word_at bs w.0) [] bs v.0) (filled LeftOver bs) tt v.2 in
     let ks = subst (λ (x : ℕ). ReadCount bs w.0 x) k.ends k in
     let us = subst (λ (x : ℕ). lists_end (word_at bs w.0) [] bs x ≡ Ok u.0) k.ends u.1 in
     let ls = lists_read (word_at bs w.0) [] bs (w.0 + 2) u.0 b k.there us in
-    let e : u.0 ≡ length bs = omega (arith, filled_read bs u.0 u.2, ls.stands.within) in
+    let e : u.0 ≡ length bs = omega (arith, filled_read LeftOver bs u.0 u.2, ls.stands.within) in
     let p : w.0 ≡ count_place bs = ap (end_or 0) (sym d.ends) in
     record {
       small = leb-true _ _ a.0;

@@ -1,9 +1,9 @@
 -- What is asked of a packed book, from left to right, with the first fault at its place.
-use Rattle.std.specs.Prelude.{ℕ, zero, suc, ◌+◌, Bool, true, false, cond, ◌&&◌, List, [], length, take, drop, Some, None, Ok, Err, Option, Result, nat_le, nat_lt}
+use Rattle.std.specs.Prelude.{ℕ, zero, suc, ◌+◌, Bool, true, false, cond, ◌&&◌, List, [], length, take, drop, Some, None, Ok, Err, Option, Result, nat_le}
 use Rattle.std.specs.Option.{option_map}
 use Rattle.address.specs.Text.{Text}
 use Rattle.address.specs.Address.{bare}
-use Rattle.roll.specs.Ends.{after, word_at, there, text_end}
+use Rattle.roll.specs.Ends.{after, word_at, there, text_end, filled}
 use Rattle.roll.specs.declared.fault.RollFault.{RollFault}
 use Rattle.roll.specs.declared.limits.Limits.{Limits}
 use Rattle.email_policy.specs.Ends.{record_end}
@@ -81,14 +81,11 @@ lists_end (suc n) last bs at = after (list_end last bs at) (lists_end n (key_at 
 abbrev pub count_end : List ℕ → ℕ → BookEnd
 count_end bs at = cond (there bs at 2 && nat_le (word_at bs at) most_lists) (Ok (at + 2)) (Err (Size at))
 
-abbrev pub filled : List ℕ → ℕ → Result (Unit {0}) OpenFault
-filled bs e = cond (nat_lt e (length bs)) (Err (LeftOver e)) (Ok tt)
-
 -- a book: not too large, the defaults, the number of lists, the lists, and nothing after. Every key follows the empty text
 abbrev pub whole_book : List ℕ → Result (Unit {0}) OpenFault
 whole_book bs =
     cond (nat_le (length bs) longest_book)
     (after (policy_end true bs 0) (λ c.
     after (count_end bs c) (λ at.
-    after (lists_end (word_at bs c) [] bs at) (filled bs))))
+    after (lists_end (word_at bs c) [] bs at) (filled LeftOver bs))))
     (Err (Size longest_book))

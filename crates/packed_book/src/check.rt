@@ -7,7 +7,7 @@ ghost use Rattle.packed_book.specs.Laws.{Packed};
 ghost use Rattle.packed_book.specs.Reading.{read_book};
 
 use crate::fault::OpenFault;
-use email_policy::{PolicyFault, check_bytes, key_fault, own_address, record_end, rises};
+use email_policy::{Record, check_key, record_end, rises};
 use roll::{Limits, read_word, text_end};
 
 /// A key as a text of a roll: only whether it is all there is asked.
@@ -26,10 +26,7 @@ fn key_end(bytes: &[u8], at: usize) -> Result<usize, OpenFault>
     ensures value { result ≡ key_end bytes.now at }
     ensures bound { IfOk result (λ e. (e ≡ at + (2 + word_at bytes.now at)) × (e ≤ length bytes.now)) }
 {
-    match text_end(ANY_TEXT, bytes, at) {
-        Ok(end) => Ok(end),
-        Err(_) => Err(OpenFault::Size(at)),
-    }
+    text_end(ANY_TEXT, bytes, at).map_err(|_| OpenFault::Size(at))
 }
 
 /// The key at a place, as far as it is there.
@@ -49,7 +46,7 @@ fn policy_end(bytes: &[u8], at: usize, full: bool) -> Result<usize, OpenFault>
     ensures bound { IfOk result (λ e. (at ≤ e) × (e ≤ length bytes.now)) }
 {
     let end = record_end(bytes, at, full)?;
-    check_bytes(bytes, at)?;
+    Record::new(bytes, at).check_texts()?;
     Ok(end)
 }
 
@@ -58,14 +55,10 @@ fn list_end(last: &[u8], bytes: &[u8], at: usize) -> Result<usize, OpenFault>
     ensures { result ≡ list_end last.now bytes.now at }
 {
     let place = key_end(bytes, at)?;
-    if let Some(fault) = key_fault(bytes, at, at + 2, place) {
-        return Err(OpenFault::InPolicy(PolicyFault::Key(fault)));
-    }
+    check_key(bytes, at, at + 2, place)?;
     let end = policy_end(bytes, place, false)?;
     let key = key_at(bytes, at);
-    if let Some(text) = own_address(bytes, place, key) {
-        return Err(OpenFault::InPolicy(PolicyFault::OwnAddress(text)));
-    }
+    Record::new(bytes, place).check_cc(key)?;
     if !rises(last, key) {
         return Err(OpenFault::Order(at));
     }
@@ -78,7 +71,7 @@ fn lists_end(bytes: &[u8], count: usize, at: usize) -> Result<usize, OpenFault>
 {
     let mut last: &[u8] = &[];
     let mut here = at;
-    for i in 0..count {
+    for _ in 0..count {
         let end = list_end(last, bytes, here)?;
         last = key_at(bytes, here);
         here = end;
@@ -90,9 +83,7 @@ fn lists_end(bytes: &[u8], count: usize, at: usize) -> Result<usize, OpenFault>
 fn list_count(bytes: &[u8], at: usize) -> Result<usize, OpenFault>
     ensures { MatchResult result (λ n. (n ≡ word_at bytes.now at) × (count_end bytes.now at ≡ Ok (at + 2)) × (at + 2 ≤ length bytes.now)) (λ f. count_end bytes.now at ≡ Err f) }
 {
-    let Some(count) = read_word(bytes, at) else {
-        return Err(OpenFault::Size(at));
-    };
+    let count = read_word(bytes, at).ok_or(OpenFault::Size(at))?;
     if count > MOST_LISTS {
         return Err(OpenFault::Size(at));
     }

@@ -1,11 +1,32 @@
 // A packed book as a policy source.
+ghost use Rattle.std.specs.Prelude.{◌≡◌, Some, None};
+ghost use Rattle.std.specs.List.{slice_get};
+ghost use Rattle.std.specs.Option.{option_map};
+ghost use Rattle.email_policy.specs.Reading.{read_policy, as_defaults};
 ghost use Rattle.packed_book.specs.Reading.{read_book};
 ghost use Rattle.packed_book.specs.Accepted.{book_lawful};
 
 use crate::book::PackedBook;
 use crate::check::key_at;
 use crate::view::policy_place;
-use email_policy::{PolicySource, PositiveReviewPolicy, ReplyTo};
+use email_policy::{PolicySource, PositiveReviewPolicy, Record, ReplyTo};
+
+impl<'a> PackedBook<'a> {
+    /// The record of list `n`.
+    fn list(&self, n: usize) -> Option<Record<'a>>
+        ensures { option_map (λ r. read_policy r.bytes.now r.at) result ≡ option_map (λ e. e.policy) (slice_get (read_book self.now.bytes.now).lists n) }
+    {
+        let at = policy_place(self.bytes, self.entry(n)?);
+        Some(Record::new(self.bytes, at))
+    }
+
+    /// The record of the defaults.
+    fn defaults(&self) -> Record<'a>
+        ensures { as_defaults (read_policy result.bytes.now result.at) ≡ (read_book self.now.bytes.now).defaults }
+    {
+        Record::new(self.bytes, 0)
+    }
+}
 
 impl<'a> PolicySource for PackedBook<'a> {
     ghost meaning = { λ s. read_book s.bytes.now };
@@ -13,56 +34,51 @@ impl<'a> PolicySource for PackedBook<'a> {
     ghost lawful = { λ s. book_lawful s.bytes.now s.octets s.accepted };
 
     fn len(&self) -> usize {
-        self.count
+        self.starts.len()
     }
 
     fn key(&self, n: usize) -> Option<&[u8]> {
-        let at = self.entry(n)?;
-        Some(key_at(self.bytes, at))
+        Some(key_at(self.bytes, self.entry(n)?))
     }
 
     fn reply_to(&self, n: usize) -> Option<ReplyTo> {
-        let at = policy_place(self.bytes, self.entry(n)?);
-        email_policy::reply_to(self.bytes, at)
+        self.list(n)?.reply_to()
     }
 
     fn positive_review(&self, n: usize) -> Option<PositiveReviewPolicy> {
-        let at = policy_place(self.bytes, self.entry(n)?);
-        email_policy::positive_review(self.bytes, at)
+        self.list(n)?.positive_review()
     }
 
     fn mute_all(&self, n: usize) -> Option<bool> {
-        let at = policy_place(self.bytes, self.entry(n)?);
-        email_policy::mute_all(self.bytes, at)
+        self.list(n)?.mute_all()
     }
 
     fn cc(&self, n: usize, m: usize) -> Option<&[u8]> {
-        let at = policy_place(self.bytes, self.entry(n)?);
-        email_policy::cc(self.bytes, at, m)
+        self.list(n)?.cc(m)
     }
 
     fn ignored_email(&self, n: usize, m: usize) -> Option<&[u8]> {
-        let at = policy_place(self.bytes, self.entry(n)?);
-        email_policy::ignored_email(self.bytes, at, m)
+        self.list(n)?.ignored_email(m)
     }
 
     fn default_reply_to(&self) -> ReplyTo {
-        email_policy::reply_to(self.bytes, 0).unwrap_or(ReplyTo::NOBODY)
+        self.defaults().reply_to().unwrap_or(ReplyTo::NOBODY)
     }
 
     fn default_positive_review(&self) -> PositiveReviewPolicy {
-        email_policy::positive_review(self.bytes, 0).unwrap_or(PositiveReviewPolicy::None)
+        let rank = self.defaults().positive_review();
+        rank.unwrap_or(PositiveReviewPolicy::None)
     }
 
     fn default_mute_all(&self) -> bool {
-        email_policy::mute_all(self.bytes, 0).unwrap_or(false)
+        self.defaults().mute_all().unwrap_or(false)
     }
 
     fn default_cc(&self, m: usize) -> Option<&[u8]> {
-        email_policy::cc(self.bytes, 0, m)
+        self.defaults().cc(m)
     }
 
     fn default_ignored_email(&self, m: usize) -> Option<&[u8]> {
-        email_policy::ignored_email(self.bytes, 0, m)
+        self.defaults().ignored_email(m)
     }
 }

@@ -7,30 +7,17 @@ ghost use Rattle.roll.specs.Packing.{pack_text, pack_texts};
 ghost use Rattle.email_policy.specs.Lawful.{pack_entry, pack_book};
 ghost use Rattle.email_policy.specs.Numbers.{weighed, reply_number, rank_number, mute_number};
 ghost use Rattle.email_policy.specs.Packing.{some_text, pack_part, bit_map, pack_policy};
-ghost use Rattle.packed_book.specs.Rows.{record_of, texts_of, byte_row, list_row, Puts};
+ghost use Rattle.email_policy.specs.Texts.{record_of, texts_of};
+ghost use Rattle.packed_book.specs.Rows.{byte_row, list_row, Puts};
 ghost use Rattle.packed_book.specs.Writing.{write_answer, write_tray};
 
-use email_policy::{MOST_TEXTS, PolicySource};
+use email_policy::{PolicySource, TextField, Whose, source_text, source_texts};
 use roll::{write_byte, write_text, write_word};
 
 /// The tray is shorter than the book, which needs so many bytes.
 #[derive(Clone, Copy, PartialEq, Eq, Debug)]
 pub struct TrayTooShort {
     pub needed: usize,
-}
-
-/// Whose record is written: that of the defaults, or of the list with this number.
-#[derive(Clone, Copy)]
-enum Whose {
-    Defaults,
-    List(usize),
-}
-
-/// A roll of a record.
-#[derive(Clone, Copy)]
-enum Part {
-    Cc,
-    Ignored,
 }
 
 fn put_byte(tray: &mut [u8], at: usize, byte: Option<u8>) -> usize
@@ -60,8 +47,8 @@ fn reply_byte<S: PolicySource>(source: &S, whose: Whose) -> Option<u8>
     ensures { result ≡ option_map reply_number (record_of (S.meaning source.now) whose).reply_to }
 {
     match whose {
-        Whose::Defaults => Some(source.default_reply_to().number()),
-        Whose::List(n) => Some(source.reply_to(n)?.number()),
+        Whose::Defaults => Some(u8::from(source.default_reply_to())),
+        Whose::List(n) => source.reply_to(n).map(u8::from),
     }
 }
 
@@ -69,67 +56,41 @@ fn rank_byte<S: PolicySource>(source: &S, whose: Whose) -> Option<u8>
     ensures { result ≡ option_map rank_number (record_of (S.meaning source.now) whose).positive_review }
 {
     match whose {
-        Whose::Defaults => Some(source.default_positive_review().number()),
-        Whose::List(n) => Some(source.positive_review(n)?.number()),
+        Whose::Defaults => Some(u8::from(source.default_positive_review())),
+        Whose::List(n) => source.positive_review(n).map(u8::from),
     }
-}
-
-fn mute_number(mute: bool) -> u8
-    ensures { result ≡ mute_number mute }
-{
-    if mute { 1 } else { 0 }
 }
 
 fn mute_byte<S: PolicySource>(source: &S, whose: Whose) -> Option<u8>
     ensures { result ≡ option_map mute_number (record_of (S.meaning source.now) whose).mute_all }
 {
     match whose {
-        Whose::Defaults => Some(mute_number(source.default_mute_all())),
-        Whose::List(n) => Some(mute_number(source.mute_all(n)?)),
-    }
-}
-
-/// Text `m` of a roll.
-fn text<S: PolicySource>(source: &S, whose: Whose, part: Part, m: usize) -> Option<&[u8]>
-    ensures { option_map (λ x. x.now) result ≡ slice_get (texts_of part (record_of (S.meaning source.now) whose)) m }
-{
-    match (whose, part) {
-        (Whose::Defaults, Part::Cc) => source.default_cc(m),
-        (Whose::Defaults, Part::Ignored) => source.default_ignored_email(m),
-        (Whose::List(n), Part::Cc) => source.cc(n, m),
-        (Whose::List(n), Part::Ignored) => source.ignored_email(n, m),
+        Whose::Defaults => Some(u8::from(source.default_mute_all())),
+        Whose::List(n) => source.mute_all(n).map(u8::from),
     }
 }
 
 /// How many texts a roll has.
-fn text_count<S: PolicySource>(source: &S, whose: Whose, part: Part) -> usize
-    ensures value { result ≡ length (texts_of part (record_of (S.meaning source.now) whose)) }
+fn text_count<S: PolicySource>(source: &S, whose: Whose, field: TextField) -> usize
+    ensures value { result ≡ length (texts_of field (record_of (S.meaning source.now) whose)) }
     ensures few { result ≤ 32 }
 {
-    for m in 0..MOST_TEXTS {
-        let Some(_) = text(source, whose, part, m) else {
-            return m;
-        };
-    }
-    MOST_TEXTS
+    source_texts(source, whose, field).count()
 }
 
 fn put_texts<S: PolicySource>(
     source: &S,
     whose: Whose,
-    part: Part,
+    field: TextField,
     tray: &mut [u8],
     at: usize,
 ) -> usize
-    requires { at + length (pack_texts (texts_of part (record_of (S.meaning source.now) whose))) ≤ 65535 }
-    ensures end { result ≡ at + length (pack_texts (texts_of part (record_of (S.meaning source.now) whose))) }
-    ensures tray { Puts tray.old at (pack_texts (texts_of part (record_of (S.meaning source.now) whose))) tray.new }
+    requires { at + length (pack_texts (texts_of field (record_of (S.meaning source.now) whose))) ≤ 65535 }
+    ensures end { result ≡ at + length (pack_texts (texts_of field (record_of (S.meaning source.now) whose))) }
+    ensures tray { Puts tray.old at (pack_texts (texts_of field (record_of (S.meaning source.now) whose))) tray.new }
 {
     let mut end = at;
-    for m in 0..MOST_TEXTS {
-        let Some(text) = text(source, whose, part, m) else {
-            return end;
-        };
+    for text in source_texts(source, whose, field) {
         end = put_text(tray, end, text);
     }
     end
@@ -139,20 +100,20 @@ fn put_texts<S: PolicySource>(
 fn put_roll<S: PolicySource>(
     source: &S,
     whose: Whose,
-    part: Part,
+    field: TextField,
     tray: &mut [u8],
     at: usize,
 ) -> usize
-    requires { at + length (pack_part (texts_of part (record_of (S.meaning source.now) whose))) ≤ 65535 }
-    ensures end { result ≡ at + length (pack_part (texts_of part (record_of (S.meaning source.now) whose))) }
-    ensures tray { Puts tray.old at (pack_part (texts_of part (record_of (S.meaning source.now) whose))) tray.new }
+    requires { at + length (pack_part (texts_of field (record_of (S.meaning source.now) whose))) ≤ 65535 }
+    ensures end { result ≡ at + length (pack_part (texts_of field (record_of (S.meaning source.now) whose))) }
+    ensures tray { Puts tray.old at (pack_part (texts_of field (record_of (S.meaning source.now) whose))) tray.new }
 {
-    let count = text_count(source, whose, part);
+    let count = text_count(source, whose, field);
     if count == 0 {
         return at;
     }
     let _ = write_word(tray, at, count);
-    put_texts(source, whose, part, tray, at + 2)
+    put_texts(source, whose, field, tray, at + 2)
 }
 
 /// The bit of a field, where it is there.
@@ -163,10 +124,10 @@ fn bit(is_there: bool, weight: u8) -> u8
     if is_there { weight } else { 0 }
 }
 
-fn has_text<S: PolicySource>(source: &S, whose: Whose, part: Part) -> bool
-    ensures { result ≡ some_text (texts_of part (record_of (S.meaning source.now) whose)) }
+fn has_text<S: PolicySource>(source: &S, whose: Whose, field: TextField) -> bool
+    ensures { result ≡ some_text (texts_of field (record_of (S.meaning source.now) whose)) }
 {
-    text(source, whose, part, 0).is_some()
+    source_text(source, whose, field, 0).is_some()
 }
 
 fn bit_map<S: PolicySource>(source: &S, whose: Whose) -> u8
@@ -175,8 +136,8 @@ fn bit_map<S: PolicySource>(source: &S, whose: Whose) -> u8
     let reply = bit(reply_byte(source, whose).is_some(), 1);
     let rank = bit(rank_byte(source, whose).is_some(), 2);
     let mute = bit(mute_byte(source, whose).is_some(), 4);
-    let cc = bit(has_text(source, whose, Part::Cc), 8);
-    let ignored = bit(has_text(source, whose, Part::Ignored), 16);
+    let cc = bit(has_text(source, whose, TextField::Cc), 8);
+    let ignored = bit(has_text(source, whose, TextField::IgnoredEmails), 16);
     reply + (rank + (mute + (cc + ignored)))
 }
 
@@ -189,8 +150,8 @@ fn put_policy<S: PolicySource>(source: &S, whose: Whose, tray: &mut [u8], at: us
     let rank = put_byte(tray, reply, reply_byte(source, whose));
     let mute = put_byte(tray, rank, rank_byte(source, whose));
     let cc = put_byte(tray, mute, mute_byte(source, whose));
-    let ignored = put_roll(source, whose, Part::Cc, tray, cc);
-    put_roll(source, whose, Part::Ignored, tray, ignored)
+    let ignored = put_roll(source, whose, TextField::Cc, tray, cc);
+    put_roll(source, whose, TextField::IgnoredEmails, tray, ignored)
 }
 
 /// Writes the key and the record of list `n`.
@@ -212,6 +173,7 @@ fn put_lists<S: PolicySource>(source: &S, tray: &mut [u8], at: usize) -> usize
     ensures tray { Puts tray.old at (flat_map pack_entry (S.meaning source.now).lists) tray.new }
 {
     let mut end = at;
+    // by number: a source tells everything of a list by its number
     for n in 0..source.len() {
         end = put_list(source, n, tray, end);
     }

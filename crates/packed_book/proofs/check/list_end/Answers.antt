@@ -1,4 +1,4 @@
-use Rattle.std.proofs.Common.{rules}
+use Rattle.std.proofs.Common.{rules, ◌≡◌, arith}
 use Rattle.packed_book.specs.Ends.{list_end}
 use Rattle.packed_book.proofs.check.list_end.Goals as goal
 
@@ -6,22 +6,22 @@ pub returns-in_err-place : goal.returns-in_err-place
 unfolding list_end
 returns-in_err-place c = search rules
 
-pub returns-in-Some : goal.returns-in-Some
+pub returns-in_err-check_key : goal.returns-in_err-check_key
 unfolding list_end
-returns-in-Some c = search rules
+returns-in_err-check_key c = search rules
 
 pub returns-in_err-end : goal.returns-in_err-end
 unfolding list_end
 returns-in_err-end c = search rules
 
-pub returns-in-Some-own_address : goal.returns-in-Some-own_address
+pub returns-in_err-check_cc : goal.returns-in_err-check_cc
 unfolding list_end
-returns-in-Some-own_address c = search rules
+returns-in_err-check_cc c = let b = c.in_ok-place.ensures.bound in let e : c.new.result.at ≡ c.in_ok-place.place = omega arith in search rules
 
 pub returns-then-not-rises : goal.returns-then-not-rises
 unfolding list_end
-returns-then-not-rises c = search rules
+returns-then-not-rises c = let b = c.in_ok-place.ensures.bound in let e : c.new.result.at ≡ c.in_ok-place.place = omega arith in search rules
 
 pub returns : goal.returns
 unfolding list_end
-returns c = search rules
+returns c = let b = c.in_ok-place.ensures.bound in let e : c.new.result.at ≡ c.in_ok-place.place = omega arith in search rules

@@ -1,6 +1,8 @@
-use Rattle.std.proofs.Common.{refl, arith}
-use Rattle.packed_book.proofs.Views.{first_accepted, first_bytes}
+use Rattle.std.proofs.Common.{refl}
+use Rattle.roll.specs.Reading.{texts_fault}
+use Rattle.packed_book.specs.Ends.{lists_end}
 use Rattle.packed_book.proofs.view.first_hour.Goals as goal
 
-pub invariant_of-result : goal.invariant_of-result
-invariant_of-result c = record { octets = first_bytes; accepted = first_accepted; counted = refl; few = omega arith; indexed = λ k h. absurd (omega arith) }
+pub index-requires : goal.index-requires
+unfolding lists_end texts_fault
+index-requires c = refl

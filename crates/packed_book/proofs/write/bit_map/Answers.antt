@@ -1,6 +1,6 @@
 use Rattle.std.proofs.Common.{Bool, ap, ◌∙◌}
 use Rattle.email_policy.specs.Numbers.{weighed, reply_number, rank_number, mute_number}
-use Rattle.packed_book.specs.Rows.{record_of}
+use Rattle.email_policy.specs.Texts.{record_of}
 use Rattle.packed_book.proofs.Rows.{map_is, bit_is}
 use Rattle.packed_book.proofs.write.bit_map.Goals as goal
 

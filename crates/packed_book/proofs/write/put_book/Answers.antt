@@ -5,12 +5,6 @@ use Rattle.packed_book.proofs.Puts.{puts_put}
 use Rattle.packed_book.proofs.Rows.{book_size, book_puts}
 use Rattle.packed_book.proofs.write.put_book.Goals as goal
 
-pub put_policy-place-requires : goal.put_policy-place-requires
-put_policy-place-requires g c =
-    let s = book_size (g.S.PolicySource.meaning c.args.source.now) in
-    let l = (g.S.PolicySource.lawful c.args.source.now).small in
-    omega arith
-
 pub put_lists-requires : goal.put_lists-requires
 put_lists-requires g c =
     let s = book_size (g.S.PolicySource.meaning c.args.source.now) in

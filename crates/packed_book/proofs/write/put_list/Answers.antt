@@ -2,7 +2,8 @@ use Rattle.std.proofs.Common.{ℕ, List, sym, subst, arith}
 use Rattle.std.specs.List.{slice_get}
 use Rattle.roll.specs.Packing.{pack_text}
 use Rattle.email_policy.specs.Packing.{pack_policy}
-use Rattle.packed_book.specs.Rows.{listed, Puts}
+use Rattle.email_policy.specs.Texts.{listed}
+use Rattle.packed_book.specs.Rows.{Puts}
 use Rattle.packed_book.proofs.Puts.{puts_none, puts_then}
 use Rattle.packed_book.proofs.Rows.{list_none, list_some, list_size}
 use Rattle.packed_book.proofs.write.put_list.Goals as goal
@@ -11,19 +12,6 @@ pub returns-in_default : goal.returns-in_default
 returns-in_default g c =
     let e = list_none (slice_get (g.S.PolicySource.meaning c.args.source.now).lists c.args.n) c.in_default.ensures in
     rw e record { end = omega arith; tray = puts_none c.args.tray.now c.args.at }
-
-pub put_text-place-requires : goal.put_text-place-requires
-put_text-place-requires g c =
-    let s = list_size (slice_get (g.S.PolicySource.meaning c.args.source.now).lists c.args.n) c.in-Some.key.now c.in-Some.ensures in
-    let h = c.requires in
-    omega arith
-
-pub put_policy-requires : goal.put_policy-requires
-put_policy-requires g c =
-    let s = list_size (slice_get (g.S.PolicySource.meaning c.args.source.now).lists c.args.n) c.in-Some.key.now c.in-Some.ensures in
-    let h = c.requires in
-    let e = c.put_text-place.ensures.end in
-    omega arith
 
 pub returns : goal.returns
 returns g c =

@@ -1,11 +1,9 @@
 use Rattle.std.proofs.Common.{arith}
+use Rattle.std.proofs.lemmas.List.{drop_all}
 use Rattle.email_policy.specs.Lawful.{pack_entry}
-use Rattle.packed_book.proofs.Puts.{left_start, left_all}
+use Rattle.packed_book.proofs.Puts.{left_all}
 use Rattle.packed_book.proofs.Rows.{list_room, list_more}
 use Rattle.packed_book.proofs.write.put_lists.Goals as goal
-
-pub loop-n-init : goal.loop-n-init
-loop-n-init g c = left_start pack_entry (g.S.PolicySource.meaning c.args.source.now).lists c.args.tray.now c.args.at
 
 pub put_list-end-requires : goal.put_list-end-requires
 put_list-end-requires g c =
@@ -20,5 +18,5 @@ loop-n-preserved g c =
 
 pub returns : goal.returns
 returns g c =
-    let a = left_all pack_entry (g.S.PolicySource.meaning c.args.source.now).lists c.loop-n.n c.args.tray.now c.loop-n.tray c.args.at c.loop-n.end c.loop-n.invariant (omega arith) in
+    let a = left_all pack_entry (g.S.PolicySource.meaning c.args.source.now).lists _ c.args.tray.now c.loop-n.tray c.args.at c.loop-n.end c.loop-n.invariant (drop_all c.loop-n.n _ (omega arith)) in
     record { end = a.0; tray = a.1 }

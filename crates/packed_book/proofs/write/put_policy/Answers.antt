@@ -1,5 +1,5 @@
 use Rattle.std.proofs.Common.{refl, arith}
-use Rattle.packed_book.specs.Rows.{record_of}
+use Rattle.email_policy.specs.Texts.{record_of}
 use Rattle.packed_book.proofs.Rows.{policy_size, policy_puts}
 use Rattle.packed_book.proofs.write.put_policy.Goals as goal
 

@@ -1,13 +1,14 @@
-use Rattle.std.proofs.Common.{rules}
+use Rattle.std.proofs.Common.{◌≡◌, get_or, arith, rules}
 use Rattle.packed_book.proofs.Views.{found, found-past}
 use Rattle.packed_book.proofs.book.PackedBook.entry.Goals as goal
 
-pub returns-then-n-self : goal.returns-then-n-self
-returns-then-n-self c =
+pub returns-in_err-at-clause-list : goal.returns-in_err-at-clause-list
+returns-in_err-at-clause-list c =
     let b = c.args.self.now in
-    record { small = search rules; list = found b.bytes.now b.count b.starts b.counted b.indexed c.args.n c.if-n-self.true }
+    rw c.from_residual.ensures (found-past b.bytes.now b.starts.items b.counted b.indexed c.args.n (search (rules, arith)))
 
-pub returns-else-n-self : goal.returns-else-n-self
-returns-else-n-self c =
+pub returns-clause-list : goal.returns-clause-list
+returns-clause-list c =
     let b = c.args.self.now in
-    record { small = tt; list = found-past b.bytes.now b.count b.starts b.counted b.indexed c.args.n c.if-n-self.false }
+    let here : c.from.result ≡ get_or b.starts.items c.args.n 0 = search (rules, arith) in
+    rw here (found b.bytes.now b.starts.items b.counted b.indexed c.args.n (search (rules, arith)))
