@@ -1,10 +1,11 @@
+pub mod Bounds
+pub mod ByMarks
+pub mod Meant
 pub mod Said
 pub mod Searches
-pub mod Summed
-pub mod Addressed
 pub mod ShutOut
-pub mod Marking
+pub mod Summed
 pub mod Gathered
-pub mod Meant
-pub mod ByMarks
-pub mod Bounds
+pub mod Turns
+pub mod Marking
+pub mod Addressed

@@ -1,6 +1,6 @@
--- What the one pass over the lists gives.
-use Rattle.std.proofs.Common.{◌≡◌, ℕ, zero, suc, ◌+◌, ◌<◌, ◌≤◌, Bool, true, false, cond, ◌||◌, List, [], ◌∷◌, map, length, get_or, drop, sym, refl, ap, ◌∙◌, add-one, arith}
-use Rattle.std.proofs.lemmas.List.{drop_all}
+-- What the sum over the marked lists says: the terms of the named lists, and the governing ones.
+use Rattle.std.proofs.Common.{◌≡◌, Bool, true, false, ◌||◌, List, [], ◌∷◌, map, sym, refl, ap, ◌∙◌}
+use Rattle.std.proofs.Math.Bool.{or-false, or-true, or_assoc}
 use Rattle.std.proofs.lemmas.Bool.{true≢false}
 use Rattle.keep_first.specs.Keep.{some}
 use Rattle.email_policy.specs.Policy.{DefaultPolicy, Entry, Policy}
@@ -10,58 +10,8 @@ use Rattle.audience.specs.Rules.{Named, unless_named, by_defaults, by_lists, hig
 use Rattle.mail.specs.Marks.{marked}
 use Rattle.grants.specs.declared.pass.Pass.{Pass}
 use Rattle.grants.specs.declared.pass.Terms.{Terms}
-use Rattle.grants.specs.declared.rule.Rule.{Rule as CodeRule}
-use Rattle.grants.specs.Rules.{no_entry, entry_at, named_in, named_by, terms_by}
+use Rattle.grants.specs.Rules.{named_in, named_by, terms_by}
 use Rattle.grants.specs.Sums.{code_rule, nothing_said, with_rule, sum_from}
-use Rattle.grants.proofs.Said.{entry_read}
-
-module _ (q : Pass) (d : DefaultPolicy) where
-  -- the terms with those of a list, if it is marked
-  abbrev with_mark : Terms → Bool → Entry → Terms
-  with_mark t b e = cond b (with_rule t (code_rule q d e.policy)) t
-
-  sum_next : (t : Terms) (bs : List Bool) (es : List Entry) (n : ℕ) → n < length es → sum_from q d (with_mark t (get_or bs n false) (get_or es n no_entry)) (drop (suc n) bs) (drop (suc n) es) ≡ sum_from q d t (drop n bs) (drop n es)
-  unfolding sum_from
-  sum_next t bs [] n h = absurd (omega arith)
-  sum_next t [] (e ∷ es) zero h = refl
-  sum_next t [] (e ∷ es) (suc n) h = refl
-  sum_next t (b ∷ bs) (e ∷ es) zero h = refl
-  sum_next t (b ∷ bs) (e ∷ es) (suc n) h = sum_next t bs es n (omega arith)
-
-  sum_none : (t : Terms) (bs : List Bool) → sum_from q d t bs [] ≡ t
-  unfolding sum_from
-  sum_none t [] = refl
-  sum_none t (b ∷ bs) = refl
-
-  pub sum_all : (t all : Terms) (bs : List Bool) (es : List Entry) (n : ℕ) → length es ≤ n → sum_from q d t (drop n bs) (drop n es) ≡ all → t ≡ all
-  sum_all t all bs es n h was = sym (ap (sum_from q d t (drop n bs)) (drop_all n es h) ∙ sum_none t (drop n bs)) ∙ was
-
-module _ (q : Pass) (p : Policy) (start t t' : Terms) (bs : List Bool) (n : ℕ) (h : n < length p.lists) (was : sum_from q p.defaults t (drop n bs) (drop n p.lists) ≡ sum_from q p.defaults start bs p.lists) where
-  sum_more : t' ≡ with_mark q p.defaults t (get_or bs n false) (entry_at p n) → sum_from q p.defaults t' (drop (n + 1) bs) (drop (n + 1) p.lists) ≡ sum_from q p.defaults start bs p.lists
-  sum_more e =
-      rw add-one
-      (ap (λ v. sum_from q p.defaults v (drop (suc n) bs) (drop (suc n) p.lists)) (e ∙ ap (with_mark q p.defaults t (get_or bs n false)) (sym (entry_read p n)))
-      ∙ sum_next q p.defaults t bs p.lists n h ∙ was)
-
-  pub sum_added : (r : CodeRule) (u : Terms) → true ≡ get_or bs n false → r ≡ code_rule q p.defaults (entry_at p n).policy → u ≡ with_rule t r → t' ≡ u → sum_from q p.defaults t' (drop (n + 1) bs) (drop (n + 1) p.lists) ≡ sum_from q p.defaults start bs p.lists
-  sum_added r u mark is_rule is_sum e = sum_more (e ∙ is_sum ∙ ap (with_rule t) is_rule ∙ ap (λ b. with_mark q p.defaults t b (entry_at p n)) mark)
-
-  pub sum_skipped : false ≡ get_or bs n false → t' ≡ t → sum_from q p.defaults t' (drop (n + 1) bs) (drop (n + 1) p.lists) ≡ sum_from q p.defaults start bs p.lists
-  sum_skipped mark e = sum_more (e ∙ ap (λ b. with_mark q p.defaults t b (entry_at p n)) mark)
-
--- the sum, told of the named lists
-
-or_none : (b : Bool) → b ≡ (b || false)
-or_none true = refl
-or_none false = refl
-
-or_join : (a b c : Bool) → ((a || b) || c) ≡ (a || (b || c))
-or_join true b c = refl
-or_join false b c = refl
-
-or_true : (a : Bool) → true ≡ (a || true)
-or_true true = refl
-or_true false = refl
 
 higher_none : (a : PositiveReviewPolicy) → a ≡ higher a to_none
 higher_none to_none = refl
@@ -92,22 +42,22 @@ module _ (q : Pass) (d : DefaultPolicy) where
   none_added : (t : Terms) → t ≡ with_named t []
   unfolding with_named some
   none_added t = (λ i. record {
-    named = or_none t.named i;
-    author = or_none t.author i;
-    recipients = or_none t.recipients i;
+    named = sym (or-false t.named) i;
+    author = sym (or-false t.author) i;
+    recipients = sym (or-false t.recipients) i;
     every_list = t.every_list;
-    mute_all = or_none t.mute_all i;
+    mute_all = sym (or-false t.mute_all) i;
     positive_review = higher_none t.positive_review i;
   })
 
   one_added : (t : Terms) (e : Entry) (ns : List Named) → with_named (with_rule t (code_rule q d e.policy)) ns ≡ with_named t (named_in q d e ∷ ns)
   unfolding with_named some
   one_added t e ns = let r = (named_in q d e).rule in (λ i. record {
-    named = or_true t.named i;
-    author = or_join t.author r.reply_to.author (some (λ n. n.rule.reply_to.author) ns) i;
-    recipients = or_join t.recipients r.reply_to.recipients (some (λ n. n.rule.reply_to.recipients) ns) i;
+    named = sym (or-true t.named) i;
+    author = or_assoc t.author r.reply_to.author (some (λ n. n.rule.reply_to.author) ns) i;
+    recipients = or_assoc t.recipients r.reply_to.recipients (some (λ n. n.rule.reply_to.recipients) ns) i;
     every_list = t.every_list;
-    mute_all = or_join t.mute_all r.mute_all (some (λ n. n.rule.mute_all) ns) i;
+    mute_all = or_assoc t.mute_all r.mute_all (some (λ n. n.rule.mute_all) ns) i;
     positive_review = higher_join t.positive_review r.positive_review (highest (map (λ n. n.rule.positive_review) ns)) i;
   })
 

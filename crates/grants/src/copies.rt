@@ -1,66 +1,56 @@
 // The cc texts that policies add.
-ghost use Rattle.std.specs.Prelude.{◌≡◌, drop};
-ghost use Rattle.mail.specs.Tables.{Holds, fitting, Appends};
+ghost use Rattle.std.specs.Prelude.{◌≡◌, ◌&&◌, map};
+ghost use Rattle.email_policy.specs.Texts.{record_of, texts_of};
+ghost use Rattle.email_policy.specs.declared.texts.TextField.TheVariants.{Cc};
+ghost use Rattle.mail.specs.Parts.{text_in};
+ghost use Rattle.mail.specs.Tables.{filled};
+ghost use Rattle.audience.specs.Rules.{rule_of};
 ghost use Rattle.grants.specs.Rules.{grant_by, entry_at};
+ghost use Rattle.grants.specs.Sums.{gives_cc};
 
 use crate::pass::Pass;
-use crate::rule::{is_marked, rule_of};
-use email_policy::{MOST_TEXTS, PolicySource};
-use mail::{Mailbox, append};
+use crate::rule::rule_of;
+use arrayvec::ArrayVec;
+use email_policy::{PolicySource, TextField, Whose, source_texts};
+use mail::{Mailbox, push_text};
 
-/// Appends the cc texts of list `n`.
-fn append_list<'a, S: PolicySource>(
+/// 32 texts of each of 256 lists and of the defaults.
+pub const MOST_ADDED: usize = 8224;
+
+/// Writes the cc texts of a record behind those of a table, as far as there is room.
+fn push_cc<'a, S: PolicySource, const N: usize>(
+    table: &mut ArrayVec<Mailbox<'a>, N>,
     source: &'a S,
-    n: usize,
-    table: &mut [Mailbox<'a>],
-    end: usize,
-) -> usize
-    ensures { Appends table.old end (entry_at (S.meaning source.now) n).policy.cc table.new result }
+    whose: Whose,
+)
+    ensures { map text_in table.new.items ≡ filled N (map text_in table.old.items) (texts_of Cc (record_of (S.meaning source.now) whose)) }
 {
-    let mut end = end;
-    for m in 0..MOST_TEXTS {
-        let Some(text) = source.cc(n, m) else {
-            return end;
-        };
-        end = append(table, end, text);
+    for text in source_texts(source, whose, TextField::Cc) {
+        push_text(table, text);
     }
-    end
 }
 
-/// Appends the cc texts of the defaults.
-fn append_defaults<'a, S: PolicySource>(
-    source: &'a S,
-    table: &mut [Mailbox<'a>],
-    end: usize,
-) -> usize
-    ensures { Appends table.old end (S.meaning source.now).defaults.cc table.new result }
+/// Whether list `n` is named and its cc texts count.
+fn gives_cc<S: PolicySource>(source: &S, is_named: bool, n: usize, pass: Pass) -> bool
+    ensures { result ≡ (is_named && gives_cc pass (rule_of (S.meaning source.now).defaults (entry_at (S.meaning source.now) n).policy).positive_review) }
 {
-    let mut end = end;
-    for m in 0..MOST_TEXTS {
-        let Some(text) = source.default_cc(m) else {
-            return end;
-        };
-        end = append(table, end, text);
-    }
-    end
+    is_named && rule_of(source, n, pass).gives_cc
 }
 
-/// Fills a table with the cc texts of the named lists, in their order, and then those of the defaults, as far as there is
-/// room, and gives how many there are.
+/// The cc texts of the named lists, in their order, and then those of the defaults. The marks say which lists are named.
 pub fn gather_cc<'a, S: PolicySource>(
     source: &'a S,
     named: &[bool],
     pass: Pass,
-    table: &mut [Mailbox<'a>],
-) -> usize
-    ensures holds { Holds table.new result (fitting table.old (grant_by pass named.now (S.meaning source.now)).cc) }
-    ensures rest { drop result table.new ≡ drop result table.old }
+) -> ArrayVec<Mailbox<'a>, MOST_ADDED>
+    ensures { map text_in result.items ≡ (grant_by pass named.now (S.meaning source.now)).cc }
 {
-    let mut end = 0;
-    for n in 0..source.len() {
-        if is_marked(named, n) && rule_of(source, n, pass).gives_cc {
-            end = append_list(source, n, table, end);
+    let mut cc = ArrayVec::new();
+    for (n, is_named) in named.iter().enumerate().take(source.len()) {
+        if gives_cc(source, *is_named, n, pass) {
+            push_cc(&mut cc, source, Whose::List(n));
         }
     }
-    append_defaults(source, table, end)
+    push_cc(&mut cc, source, Whose::Defaults);
+    cc
 }

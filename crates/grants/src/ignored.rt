@@ -2,57 +2,28 @@
 ghost use Rattle.std.specs.Prelude.{◌≡◌};
 ghost use Rattle.address.specs.Text.{small, holds};
 ghost use Rattle.keep_first.specs.Keep.{some};
+ghost use Rattle.email_policy.specs.Texts.{record_of, texts_of};
+ghost use Rattle.email_policy.specs.declared.texts.TextField.TheVariants.{IgnoredEmails};
 ghost use Rattle.audience.specs.Rules.{ignored_texts, shut_out};
 ghost use Rattle.mail.specs.Letters.{letter};
-ghost use Rattle.grants.specs.Rules.{entry_at};
 
 use address::contains_small;
-use email_policy::{MOST_TEXTS, PolicySource};
+use email_policy::{PolicySource, TextField, Whose, source_texts};
 use mail::Mail;
 
-/// Whether list `n` ignores the author.
-fn is_ignored_by<S: PolicySource>(source: &S, author: &[u8], n: usize) -> bool
-    ensures { result ≡ some (λ t. holds (small author.now) (small t)) (entry_at (S.meaning source.now) n).policy.ignored_emails }
+/// Whether a record ignores the author.
+fn is_ignored_by<S: PolicySource>(source: &S, whose: Whose, author: &[u8]) -> bool
+    ensures { result ≡ some (λ t. holds (small author.now) (small t)) (texts_of IgnoredEmails (record_of (S.meaning source.now) whose)) }
 {
-    for m in 0..MOST_TEXTS {
-        let Some(text) = source.ignored_email(n, m) else {
-            return false;
-        };
-        if contains_small(author, text) {
-            return true;
-        }
-    }
-    false
-}
-
-/// Whether the defaults ignore the author.
-fn is_ignored_by_defaults<S: PolicySource>(source: &S, author: &[u8]) -> bool
-    ensures { result ≡ some (λ t. holds (small author.now) (small t)) (S.meaning source.now).defaults.ignored_emails }
-{
-    for m in 0..MOST_TEXTS {
-        let Some(text) = source.default_ignored_email(m) else {
-            return false;
-        };
-        if contains_small(author, text) {
-            return true;
-        }
-    }
-    false
+    source_texts(source, whose, TextField::IgnoredEmails).any(|text| contains_small(author, text))
 }
 
 /// Whether the defaults or any list, named or not, ignore the author.
 fn is_ignored_author<S: PolicySource>(source: &S, author: &[u8]) -> bool
     ensures { result ≡ some (λ t. holds (small author.now) (small t)) (ignored_texts (S.meaning source.now)) }
 {
-    if is_ignored_by_defaults(source, author) {
-        return true;
-    }
-    for n in 0..source.len() {
-        if is_ignored_by(source, author, n) {
-            return true;
-        }
-    }
-    false
+    is_ignored_by(source, Whose::Defaults, author)
+        || (0..source.len()).any(|n| is_ignored_by(source, Whose::List(n), author))
 }
 
 /// Whether the author is shut out: by an ignored text, or because the author's text holds the bot's address.

@@ -9,9 +9,9 @@ mod pass;
 mod rule;
 mod terms;
 
-pub use copies::gather_cc;
+pub use copies::{MOST_ADDED, gather_cc};
 pub use grant::Grant;
 pub use ignored::is_shut_out;
-pub use lists::{find_named, find_replying, read_keys};
+pub use lists::{MOST_LISTS, find_named, find_replying, read_keys};
 pub use pass::{Pass, Terms};
 pub use terms::find_terms;

@@ -1,6 +1,5 @@
 // What holds for one list.
-ghost use Rattle.std.specs.Prelude.{◌≡◌, false, slice_index_or};
-ghost use Rattle.audience.specs.Rules.{higher};
+ghost use Rattle.std.specs.Prelude.{◌≡◌};
 ghost use Rattle.grants.specs.Rules.{entry_at};
 ghost use Rattle.grants.specs.Sums.{code_rule};
 
@@ -44,24 +43,5 @@ pub(crate) fn rule_of<S: PolicySource>(source: &S, n: usize, pass: Pass) -> Rule
         positive_review,
         mute_all,
         gives_cc,
-    }
-}
-
-/// The mark at `n`; past the last one nothing is marked.
-pub(crate) fn is_marked(marks: &[bool], n: usize) -> bool
-    ensures { result ≡ slice_index_or marks.now n false }
-{
-    if n < marks.len() { marks[n] } else { false }
-}
-
-/// The higher of two ranks.
-pub(crate) fn higher(a: PositiveReviewPolicy, b: PositiveReviewPolicy) -> PositiveReviewPolicy
-    ensures { result ≡ higher a b }
-{
-    match (a, b) {
-        (PositiveReviewPolicy::All, _) => PositiveReviewPolicy::All,
-        (PositiveReviewPolicy::None, _) => b,
-        (PositiveReviewPolicy::Author, PositiveReviewPolicy::All) => PositiveReviewPolicy::All,
-        (PositiveReviewPolicy::Author, _) => PositiveReviewPolicy::Author,
     }
 }

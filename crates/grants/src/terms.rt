@@ -4,7 +4,7 @@ ghost use Rattle.grants.specs.Rules.{terms_by};
 ghost use Rattle.grants.specs.Sums.{with_rule, sum_from, nothing_said};
 
 use crate::pass::{Pass, Terms};
-use crate::rule::{Rule, higher, is_marked, rule_of};
+use crate::rule::{Rule, rule_of};
 use email_policy::{PolicySource, PositiveReviewPolicy};
 
 /// The terms with those of one more list.
@@ -17,7 +17,7 @@ fn with_rule(terms: Terms, rule: Rule) -> Terms
         recipients: terms.recipients || rule.reply_to.recipients,
         every_list: terms.every_list,
         mute_all: terms.mute_all || rule.mute_all,
-        positive_review: higher(terms.positive_review, rule.positive_review),
+        positive_review: terms.positive_review.max(rule.positive_review),
     }
 }
 
@@ -33,8 +33,8 @@ fn sum_up<S: PolicySource>(source: &S, named: &[bool], pass: Pass) -> Terms
         mute_all: false,
         positive_review: PositiveReviewPolicy::None,
     };
-    for n in 0..source.len() {
-        if is_marked(named, n) {
+    for (n, is_named) in named.iter().enumerate().take(source.len()) {
+        if *is_named {
             terms = with_rule(terms, rule_of(source, n, pass));
         }
     }

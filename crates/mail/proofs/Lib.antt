@@ -1,6 +1,4 @@
-pub mod Searches
 pub mod Held
-pub mod Numbered
 pub mod Marked
-pub mod Overs
+pub mod Numbered
 pub mod Spelled

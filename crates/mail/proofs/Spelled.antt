@@ -1,7 +1,7 @@
 -- What a roll of candidates mails, told of its texts.
-use Rattle.std.proofs.Common.{◌≡◌, ℕ, ◌+◌, ◌≤◌, Bool, List, [], map, length, drop, sym, ap, ◌∙◌, arith}
+use Rattle.std.proofs.Common.{◌≡◌, ℕ, ◌≤◌, Bool, List, [], map, length, sym, ap, ◌∙◌}
 use mathlib.Core.List.{map-map}
-use Rattle.std.proofs.lemmas.List.{length-map, length-drop, length-take-le}
+use Rattle.std.proofs.lemmas.List.{length-map}
 use Rattle.address.specs.Text.{Text, trimmed}
 use Rattle.address.specs.Address.{same_bare}
 use Rattle.audience.specs.Due.{has_angle}
@@ -12,7 +12,6 @@ use Rattle.keep_first.proofs.Counts.{length-kept_any}
 use Rattle.mail.specs.declared.list.Mailboxes.{Mailboxes}
 use Rattle.mail.specs.declared.letter.Mail.{Mail}
 use Rattle.mail.specs.declared.candidate_roll.Candidates.{Candidates}
-use Rattle.mail.specs.Letters.{candidates}
 use Rattle.mail.specs.Marks.{marked}
 use Rattle.mail.specs.Rolls.{text_at, classes_of, preferred_of, roll_texts, kept_places, mailed}
 use Rattle.mail.proofs.Marked.{marked-places}
@@ -34,11 +33,6 @@ module _ (ts : List Text) (bs : List Bool) (short : length bs ≤ length ts) whe
       length-kept_any (classes_of ts bs) preferred by_text
       ∙ sym (length-map (kept (classes_of ts bs) by_text) (text_at ts))
       ∙ ap length (kept-texts_by other)
-
-pub length-roll_texts : (r : Candidates) (m : Mail) (l : Mailboxes) → r.start + length r.takes.now ≤ length (candidates m l) → length (roll_texts r m l) ≡ length r.takes.now
-unfolding roll_texts
-length-roll_texts r m l h =
-    length-take-le (length r.takes.now) (drop r.start (candidates m l)) (omega (arith, length-drop r.start (candidates m l)))
 
 module _ (r : Candidates) (m : Mail) (l : Mailboxes) (short : length r.takes.now ≤ length (roll_texts r m l)) where
   pub mailed-spellings : mailed r m l ≡ map trimmed (keep_first same_bare has_angle (marked r.takes.now (roll_texts r m l)))

@@ -1,5 +1,6 @@
+pub mod Addresses
 pub mod Parts
+pub mod Tables
 pub mod Letters
 pub mod Marks
 pub mod Rolls
-pub mod Tables

@@ -1,46 +1,30 @@
 // The roll of candidates.
 ghost use Rattle.std.specs.Prelude.{◌≡◌};
-ghost use Rattle.address.specs.Address.{address_part};
-ghost use Rattle.audience.specs.Due.{has_angle};
 ghost use Rattle.mail.specs.Rolls.{text_at, roll_texts, classes_of, preferred_of, alike_by_bare};
 
 use crate::candidate_roll::Candidates;
 use crate::letter::Mail;
 use crate::list::Mailboxes;
-use crate::table::{part, text};
+use crate::lookup::candidate;
+use crate::mailbox::Mailbox;
 use keep_first::Roll;
 
-/// Whether the text holds a `<`.
-fn has_angle(text: &[u8]) -> bool
-    ensures { result ≡ has_angle text.now }
-{
-    for b in text {
-        if *b == b'<' {
-            return true;
-        }
-    }
-    false
-}
-
 impl<'t> Candidates<'t> {
+    /// The mailbox at place `i` of the roll, that of the empty text past the last one.
+    fn mailbox<'a>(&self, mail: &Mail<'_, 'a>, added: &Mailboxes<'_, 'a>, i: usize) -> Mailbox<'a>
+        ensures { result.text.now ≡ text_at (roll_texts self.now mail.now added.now) i }
+    {
+        if i >= self.takes.len() {
+            return Mailbox::default();
+        }
+        candidate(mail, added, self.start + i)
+    }
+
     /// The text at place `i` of the roll, empty past the last one.
     pub fn text<'a>(&self, mail: &Mail<'_, 'a>, added: &Mailboxes<'_, 'a>, i: usize) -> &'a [u8]
         ensures { result.now ≡ text_at (roll_texts self.now mail.now added.now) i }
     {
-        if i >= self.takes.len() {
-            return &[];
-        }
-        text(mail, added, self.start + i)
-    }
-
-    /// The address in that text.
-    fn part<'a>(&self, mail: &Mail<'_, 'a>, added: &Mailboxes<'_, 'a>, i: usize) -> &'a [u8]
-        ensures { result.now ≡ address_part (text_at (roll_texts self.now mail.now added.now) i) }
-    {
-        if i >= self.takes.len() {
-            return &[];
-        }
-        part(mail, added, self.start + i)
+        self.mailbox(mail, added, i).text()
     }
 }
 
@@ -56,10 +40,7 @@ impl<'t, 'u, 'm, 'v, 's> Roll<Mail<'u, 'm>, Mailboxes<'v, 's>> for Candidates<'t
     }
 
     fn takes_part(&self, texts: &Mail<'u, 'm>, source: &Mailboxes<'v, 's>, i: usize) -> bool {
-        if i < self.takes.len() {
-            return self.takes[i];
-        }
-        false
+        self.takes.get(i).copied().unwrap_or(false)
     }
 
     fn is_same(
@@ -69,12 +50,11 @@ impl<'t, 'u, 'm, 'v, 's> Roll<Mail<'u, 'm>, Mailboxes<'v, 's>> for Candidates<'t
         i: usize,
         j: usize,
     ) -> bool {
-        let one = self.part(&*texts, &*source, i);
-        let other = self.part(&*texts, &*source, j);
-        one.eq_ignore_ascii_case(other)
+        let part = self.mailbox(&*texts, &*source, i).part();
+        self.mailbox(&*texts, &*source, j).is_at(part)
     }
 
     fn is_preferred(&self, texts: &Mail<'u, 'm>, source: &Mailboxes<'v, 's>, i: usize) -> bool {
-        has_angle(self.text(&*texts, &*source, i))
+        self.text(&*texts, &*source, i).contains(&b'<')
     }
 }

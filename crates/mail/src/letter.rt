@@ -1,7 +1,6 @@
 // A mail, as far as the choice of recipients looks at it.
-ghost use Rattle.std.specs.Prelude.{◌≡◌, ◌+◌, ◌<◌, ◌≤◌, length};
-ghost use Rattle.address.specs.Address.{address_part};
-ghost use Rattle.mail.specs.Parts.{Parted, Short};
+ghost use Rattle.std.specs.Prelude.{◌+◌, ◌<◌, ◌≤◌, length};
+ghost use Rattle.mail.specs.Parts.{Short};
 
 use crate::mailbox::Mailbox;
 
@@ -16,7 +15,5 @@ pub struct Mail<'t, 'm> {
     ghost few_to: { to ≤ 512 },
     ghost few_cc: { length people.now ≤ 513 + to },
     ghost counted: { to < length people.now },
-    ghost parted: { Parted people.now },
     ghost short: { Short people.now },
-    ghost robot: { bot.part.now ≡ address_part bot.text.now },
 }

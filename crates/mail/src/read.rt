@@ -1,36 +1,40 @@
 // Reading the people of a mail.
-ghost use Rattle.std.specs.Prelude.{◌≡◌, ◌∷◌, ◌++◌, drop};
-ghost use Rattle.roll.specs.Views.{viewed};
-ghost use Rattle.mail.specs.Tables.{Holds, fitting, Appends};
+ghost use Rattle.std.specs.Prelude.{◌≡◌, ◌≤◌, ◌∷◌, ◌++◌, map, length};
+ghost use Rattle.mail.specs.Parts.{text_in};
+ghost use Rattle.mail.specs.Tables.{filled};
 
 use crate::mailbox::Mailbox;
-use crate::table::append;
+use crate::table::push_text;
+use arrayvec::ArrayVec;
 use roll::Roll;
 
-/// Fills a table with the author and the texts of both rolls, as far as there is room, and gives how many there are.
+/// The author, and 512 addresses each of To and Cc.
+pub const MOST_PEOPLE: usize = 1025;
+
+/// The author and the texts of both rolls.
 pub fn read_people<'m>(
     author: &'m [u8],
     to: &Roll<'m>,
     cc: &Roll<'m>,
-    table: &mut [Mailbox<'m>],
-) -> usize
-    ensures holds { Holds table.new result (fitting table.old (author.now ∷ (viewed to.now.bytes.now ++ viewed cc.now.bytes.now))) }
-    ensures rest { drop result table.new ≡ drop result table.old }
+) -> ArrayVec<Mailbox<'m>, MOST_PEOPLE>
+    ensures { map text_in result.items ≡ author.now ∷ (to.now ++ cc.now) }
 {
-    let first = append(table, 0, author);
-    let second = read_roll(to, table, first);
-    read_roll(cc, table, second)
+    let mut people = ArrayVec::new();
+    push_text(&mut people, author);
+    push_roll(&mut people, to);
+    push_roll(&mut people, cc);
+    people
 }
 
-/// Appends the texts of a roll.
-fn read_roll<'m>(roll: &Roll<'m>, table: &mut [Mailbox<'m>], n: usize) -> usize
-    ensures { Appends table.old n (viewed roll.now.bytes.now) table.new result }
+/// Writes the texts of a roll behind those of a table, as far as there is room.
+fn push_roll<'m, const N: usize>(table: &mut ArrayVec<Mailbox<'m>, N>, roll: &Roll<'m>)
+    ensures texts { map text_in table.new.items ≡ filled N (map text_in table.old.items) roll.now }
+    ensures few { length roll.now ≤ 512 }
 {
-    let mut end = n;
+    // by number: an iterator's laws would say what `len` and `text` promise once more
     for i in 0..roll.len() {
         if let Some(text) = roll.text(i) {
-            end = append(table, end, text);
+            push_text(table, text);
         }
     }
-    end
 }

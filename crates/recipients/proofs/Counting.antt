@@ -1,9 +1,9 @@
 -- Which individuals are counted, as the code asks it, and how many they are.
-use Rattle.std.proofs.Common.{◌≡◌, ℕ, ◌+◌, ◌-◌, ◌<◌, ◌≤◌, Bool, true, false, not, ◌&&◌, List, [], ◌++◌, map, length, get_or, take, drop, filter, sym, ap, ◌∙◌, arith}
-use Rattle.std.proofs.lemmas.List.{length-map, length-take-le, take_at, drop-append-le}
+use Rattle.std.proofs.Common.{◌≡◌, ℕ, ◌≤◌, Bool, true, false, not, ◌&&◌, List, ◌++◌, map, length, take, drop, filter, sym, ap, ◌∙◌, arith}
+use Rattle.std.proofs.lemmas.List.{length-map, take_at, drop-append-le}
 use Rattle.std.proofs.lemmas.Bool.{not_from_true, and_from, and_left, and_right}
-use Rattle.address.specs.Text.{Text, small}
-use Rattle.address.specs.Address.{address_part, same_bare}
+use Rattle.address.specs.Text.{Text}
+use Rattle.address.specs.Address.{same_bare}
 use Rattle.keep_first.specs.Keep.{some, keep_first}
 use Rattle.keep_first.specs.Model.{kept}
 use Rattle.audience.specs.Mail.{Mail, nobody, incoming}
@@ -11,30 +11,13 @@ use Rattle.audience.specs.Rules.{Grant}
 use Rattle.audience.specs.Due.{counts}
 use Rattle.mail.specs.declared.letter.Mail as mail
 use Rattle.mail.specs.declared.list.Mailboxes.{Mailboxes}
-use Rattle.mail.specs.declared.mailbox.Mailbox.{Mailbox}
 use Rattle.mail.specs.declared.candidate_roll.Candidates.{Candidates}
 use Rattle.mail.specs.Letters.{letter, people, texts}
 use Rattle.mail.specs.Marks.{marked}
-use Rattle.mail.specs.Parts.{part_in}
 use Rattle.mail.specs.Rolls.{classes_of, preferred_of, roll_texts}
 use Rattle.mail.proofs.Marked.{marked_all}
-use Rattle.mail.proofs.Numbered.{part_read}
-use Rattle.mail.proofs.Searches.{same_bytes, other_bytes}
 use Rattle.mail.proofs.Spelled.{kept_number}
-use Rattle.recipients.proofs.People.{text_read, length-people, length-incoming, incoming_behind, incoming_at}
-
--- the address of incoming text i
-pub incoming_part : (m : mail.Mail) (i : ℕ) (d : Mailbox) → i < length (incoming (letter m)) → part_in (get_or m.people.now (1 + i) d) ≡ address_part (get_or (incoming (letter m)) i [])
-incoming_part m i d h =
-    let there : 1 + i < length m.people.now = omega (arith, length-incoming m, length-people m) in
-    part_read m.people.now (1 + i) d m.parted there ∙ ap address_part (text_read m.people.now (1 + i) d there ∙ sym (incoming_at m i))
-
-module _ (t v u w : Text) (e : u ≡ address_part t) (f : w ≡ address_part v) where
-  pub bares_meet : small u ≡ small w → same_bare v t ≡ true
-  bares_meet h = same_bytes _ _ (ap small (sym f) ∙ sym h ∙ ap small e)
-
-  pub bares_differ : (small u ≡ small w → ⊥) → same_bare v t ≡ false
-  bares_differ h = other_bytes _ _ (λ q. h (ap small e ∙ sym q ∙ ap small (sym f)))
+use Rattle.recipients.proofs.People.{length-people, incoming_behind}
 
 module _ (listed : Text → Bool) (m : Mail) (g : Grant) (t : Text) where
   abbrev bot : Bool
@@ -45,12 +28,6 @@ module _ (listed : Text → Bool) (m : Mail) (g : Grant) (t : Text) where
 
   abbrev copied : Bool
   copied = some (same_bare t) g.cc
-
-  pub uncounted_list : listed t ≡ true → false ≡ counts listed m g t
-  uncounted_list e = sym (and_left _ _ (not_from_true (listed t) e))
-
-  pub uncounted_nobody : nobody t ≡ true → false ≡ counts listed m g t
-  uncounted_nobody e = sym (and_right _ _ (and_left _ _ (not_from_true (nobody t) e)))
 
   pub uncounted_bot : bot ≡ true → false ≡ counts listed m g t
   uncounted_bot e = sym (and_right (not (listed t)) _ (and_right (not (nobody t)) _ (and_left (not bot) (not author && not copied) (not_from_true bot e))))
@@ -81,9 +58,3 @@ module _ (r : Candidates) (m : mail.Mail) (l : Mailboxes) (passes : Text → Boo
       e
       ∙ kept_number ts r.takes.now short (preferred_of ts) (λ t. false)
       ∙ ap (λ us. length (keep_first same_bare (λ t. false) us)) ((λ i. marked (marks i) (roll_is i)) ∙ marked_all passes all)
-
--- there is room for a mark of each incoming address
-pub room_for_incoming : (m : mail.Mail) (room : List Bool) → length room ≡ 1024 → length (take (length m.people.now - 1 - 0) room) ≡ length (incoming (letter m))
-room_for_incoming m room e =
-    let n : ℕ = length m.people.now - 1 - 0 in
-    length-take-le n room (omega (arith, m.few)) ∙ omega (arith, length-incoming m, length-people m)

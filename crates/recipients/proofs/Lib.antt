@@ -1,10 +1,9 @@
-pub mod Takings
 pub mod Alikes
-pub mod People
-pub mod Searched
-pub mod Mailed
-pub mod Registers
-pub mod Marking
-pub mod Written
 pub mod Counting
+pub mod Mailed
 pub mod Mailings
+pub mod Marking
+pub mod People
+pub mod Registers
+pub mod Searched
+pub mod Takings

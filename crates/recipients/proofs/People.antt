@@ -1,12 +1,10 @@
 -- A mail's people by their numbers: the author, To, and then Cc.
-use Rattle.std.proofs.Common.{◌≡◌, ℕ, ◌+◌, ◌-◌, ◌<◌, List, [], ◌∷◌, map, length, get_or, take, drop, sym, refl, ap, ◌∙◌, one-add, arith}
-use Rattle.std.proofs.lemmas.List.{length-take-le, length-drop, length-map, get_or-take, get_or-drop, get_or-map, take-map, drop-map}
+use Rattle.std.proofs.Common.{◌≡◌, ℕ, ◌+◌, ◌-◌, ◌<◌, List, [], ◌∷◌, map, length, get_or, take, drop, sym, ap, ◌∙◌, one-add, arith}
+use Rattle.std.proofs.lemmas.List.{length-take-le, length-drop, length-map, take_all, take-map, drop-map}
 use Rattle.address.specs.Text.{Text}
-use Rattle.address.specs.Address.{address_part}
 use Rattle.audience.specs.Mail.{incoming}
 use Rattle.mail.specs.declared.letter.Mail.{Mail}
-use Rattle.mail.specs.declared.mailbox.Mailbox.{Mailbox}
-use Rattle.mail.specs.Parts.{Parted, text_in, part_in}
+use Rattle.mail.specs.Parts.{text_in}
 use Rattle.mail.specs.Letters.{letter, people}
 use Rattle.grants.proofs.Addressed.{incoming_is}
 
@@ -41,27 +39,19 @@ module _ (m : Mail) where
   pub length-incoming : length (incoming (letter m)) ≡ length (people m) - 1
   length-incoming = ap length incoming_behind ∙ length-drop 1 (people m)
 
-  pub author_at : (letter m).author ≡ get_or (people m) 0 []
-  unfolding letter
-  author_at = refl
-
-  pub to_at : (k : ℕ) → k < m.to → get_or (letter m).to k [] ≡ get_or (people m) (1 + k) []
-  unfolding letter
-  to_at k h = get_or-take m.to (drop 1 (people m)) k [] h ∙ get_or-drop 1 (people m) k []
-
-  pub cc_at : (i : ℕ) → get_or (letter m).cc i [] ≡ get_or (people m) (1 + m.to + i) []
-  unfolding letter
-  cc_at i = get_or-drop (1 + m.to) (people m) i []
-
-  pub incoming_at : (i : ℕ) → get_or (incoming (letter m)) i [] ≡ get_or (people m) (1 + i) []
-  incoming_at i = ap (λ ts. get_or ts i []) incoming_behind ∙ get_or-drop 1 (people m) i []
-
-pub parted_front : (ms : List Mailbox) (n : ℕ) → Parted ms → Parted (take n ms)
-parted_front ms n e = sym (take-map part_in n ms) ∙ ap (take n) e ∙ take-map (λ b. address_part (text_in b)) n ms
-
 -- the texts of the author and of To, as a slice has them
 pub front_texts : (m : Mail) (n : ℕ) → n ≡ 1 + m.to → map text_in (take n m.people.now) ≡ (letter m).author ∷ (letter m).to
 front_texts m n e = sym (take-map text_in n m.people.now) ∙ ap (λ k. take k (people m)) e ∙ sym (front_is m)
 
-pub text_read : (ms : List Mailbox) (k : ℕ) (d : Mailbox) → k < length ms → text_in (get_or ms k d) ≡ get_or (map text_in ms) k []
-text_read ms k d h = sym (get_or-map text_in ms k d [] h)
+-- the texts of Cc, as a slice has them
+pub behind_texts : (m : Mail) (n : ℕ) → n ≡ length m.people.now - (1 + m.to) → map text_in (take n (drop (1 + m.to) m.people.now)) ≡ (letter m).cc
+unfolding letter
+behind_texts m n e = ap (map text_in) (take_all n (drop (1 + m.to) m.people.now) (omega (arith, length-drop (1 + m.to) m.people.now))) ∙ sym (drop-map text_in (1 + m.to) m.people.now)
+
+module _ (m : Mail) where
+  pub incoming_texts : map text_in (take (length m.people.now - 1) (drop 1 m.people.now)) ≡ incoming (letter m)
+  incoming_texts = ap (map text_in) (take_all (length m.people.now - 1) (drop 1 m.people.now) (omega (arith, length-drop 1 m.people.now))) ∙ sym (incoming_is m)
+
+  pub to_texts_behind : (n : ℕ) → n ≡ m.to → map text_in (take n (drop 1 m.people.now)) ≡ (letter m).to
+  unfolding letter
+  to_texts_behind n e = sym (take-map text_in n (drop 1 m.people.now)) ∙ ap (λ k. take k (map text_in (drop 1 m.people.now))) e ∙ ap (take m.to) (sym (drop-map text_in 1 m.people.now))

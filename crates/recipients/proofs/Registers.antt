@@ -1,17 +1,16 @@
 -- Whether an address is at a known domain.
-use Rattle.std.proofs.Common.{◌≡◌, Bool, true, false, ◌||◌, List, map, Some, None, sym, ap, ◌∙◌, Bor}
+use Rattle.std.proofs.Common.{◌≡◌, Bool, false, ◌||◌, List, map, Some, None, sym, ap, ◌∙◌, Bor}
 use Rattle.std.specs.Option.{option_map}
 use Rattle.std.specs.Str.{bytes_eq}
-use Rattle.std.proofs.lemmas.Bool.{or_left}
 use Rattle.address.specs.Text.{Text, small}
-use Rattle.address.specs.Address.{address_part, domain}
+use Rattle.address.specs.Address.{bare, same_bare, domain}
 use Rattle.address.proofs.Letters.{domain_small}
 use Rattle.keep_first.specs.Keep.{some}
 use Rattle.keep_first.proofs.Alike.{some-map}
 use Rattle.audience.specs.Rules.{at_known}
 use Rattle.audience.specs.Known.{known_domain, known_mailing_list_domains}
-use Rattle.mail.specs.Parts.{same_part}
-use Rattle.recipients.specs.Choices.{at_one_of, listed_part}
+use Rattle.recipients.specs.Choices.{at_one_of, listed_by}
+use Rattle.recipients.proofs.Alikes.{listed_flip}
 
 module _ (part : Text) where
   pub no_domain : (known : Text → Bool) → None ≡ domain part → false ≡ at_known known (domain (small part))
@@ -26,9 +25,6 @@ module _ (part : Text) where
 pub in_register : (domains : List Text) → map small domains ≡ known_mailing_list_domains → at_one_of domains ≡ known_domain
 in_register domains e = (λ i d. (some-map small (bytes_eq d) domains ∙ ap (some (bytes_eq d)) e) i)
 
-module _ (keys : List Text) (u : Text) where
-  pub listed_by_key : true ≡ some (λ k. same_part u (address_part k)) keys → true ≡ listed_part keys u
-  listed_by_key e = sym (or_left _ _ (sym e))
-
-  pub listed_by_domain : (domains : List Text) (r : Bool) → map small domains ≡ known_mailing_list_domains → false ≡ some (λ k. same_part u (address_part k)) keys → r ≡ at_known (at_one_of domains) (domain (small u)) → r ≡ listed_part keys u
-  listed_by_domain domains r same e h = h ∙ (λ i. e i || at_known (in_register domains same i) (domain (small u)))
+module _ (keys : List Text) (t : Text) where
+  pub listed_by_domain : (domains : List Text) (r : Bool) → map small domains ≡ known_mailing_list_domains → false ≡ some (same_bare t) keys → r ≡ at_known (at_one_of domains) (domain (bare t)) → r ≡ listed_by keys t
+  listed_by_domain domains r same e h = h ∙ (λ i. e i || at_known (in_register domains same i) (domain (bare t))) ∙ listed_flip keys t

@@ -2,21 +2,17 @@
 use Rattle.std.specs.Prelude.{Bool, cond, not, ◌&&◌, ◌||◌, List, ◌∷◌, ◌++◌, map}
 use Rattle.std.specs.Str.{bytes_eq}
 use Rattle.address.specs.Text.{Text, small}
-use Rattle.address.specs.Address.{address_part, bare, same_bare, domain}
+use Rattle.address.specs.Address.{bare, same_bare, domain}
 use Rattle.keep_first.specs.Keep.{some}
 use Rattle.audience.specs.Mail.{Mail, mailable}
 use Rattle.audience.specs.Rules.{Grant, at_known}
 use Rattle.audience.specs.Known.{known_domain}
-use Rattle.mail.specs.Parts.{same_part}
 
 -- one of these domains, in small letters
 abbrev pub at_one_of : List Text → Text → Bool
 at_one_of domains d = some (λ k. bytes_eq d (small k)) domains
 
--- a list address: that of a key, or at a known domain; of an address, and of a text
-abbrev pub listed_part : List Text → Text → Bool
-listed_part keys u = some (λ k. same_part u (address_part k)) keys || at_known known_domain (domain (small u))
-
+-- a list address: that of a key, or at a known domain
 abbrev pub listed_by : List Text → Text → Bool
 listed_by keys t = some (λ k. same_bare k t) keys || at_known known_domain (domain (bare t))
 

@@ -1,2 +1,2 @@
 pub mod Choices
-pub mod Parts
+pub mod Policies

@@ -1,66 +1,53 @@
 // What is asked of one candidate.
-ghost use Rattle.std.specs.Prelude.{◌≡◌, ◌&&◌, map, if◌then◌else◌};
-ghost use Rattle.address.specs.Address.{address_part};
+ghost use Rattle.std.specs.Prelude.{◌≡◌, map};
+ghost use Rattle.address.specs.Address.{same_bare};
 ghost use Rattle.audience.specs.Mail.{mailable};
 ghost use Rattle.keep_first.specs.Keep.{some};
-ghost use Rattle.mail.specs.Letters.{letter, texts};
+ghost use Rattle.mail.specs.Letters.{letter};
 ghost use Rattle.mail.specs.Marks.{marked};
-ghost use Rattle.mail.specs.Parts.{Parted, text_in, same_part};
-ghost use Rattle.recipients.specs.Choices.{listed_part};
-ghost use Rattle.recipients.specs.Parts.{granted_part};
+ghost use Rattle.mail.specs.Parts.{text_in};
+ghost use Rattle.recipients.specs.Policies.{keys_in, granted_in};
+ghost use Rattle.recipients.specs.Choices.{qualifies_by};
 
 use crate::domains::is_list_address;
+use crate::policies::Policies;
 use address::contains_small;
-use grants::Grant;
-use mail::{Mail, Mailbox, Mailboxes};
+use mail::{Mail, Mailbox};
 
-/// Whether a mailbox has an address and is free of the bot.
-pub(crate) fn is_mailable(mail: &Mail<'_, '_>, mailbox: &Mailbox<'_>) -> bool
-    requires { mailbox.now.part.now ≡ address_part (text_in mailbox.now) }
-    ensures { result ≡ mailable (letter mail.now) (text_in mailbox.now) }
+/// Whether one of the marked mailboxes has the same bare.
+pub(crate) fn has_marked(mailboxes: &[Mailbox<'_>], marks: &[bool], mailbox: &Mailbox<'_>) -> bool
+    ensures { result ≡ some (same_bare mailbox.now.text.now) (marked marks.now (map text_in mailboxes.now)) }
 {
-    if mailbox.part().is_empty() {
-        return false;
-    }
-    let bot = mail.bot.part();
-    if bot.is_empty() {
-        return true;
-    }
-    !contains_small(mailbox.text(), bot)
+    mailboxes.iter().zip(marks).any(|(other, is_marked)| *is_marked && mailbox.same_bare(other))
 }
 
-/// Whether a mailbox that is marked has this address.
-pub(crate) fn has_marked(mailboxes: &[Mailbox<'_>], marks: &[bool], part: &[u8]) -> bool
-    requires { Parted mailboxes.now }
-    ensures { result ≡ some (λ t. same_part part.now (address_part t)) (marked marks.now (map text_in mailboxes.now)) }
-{
-    for n in 0..mailboxes.len().min(marks.len()) {
-        if marks[n] && part.eq_ignore_ascii_case(mailboxes[n].part()) {
+impl Policies<'_, '_, '_, '_> {
+    /// Whether a mailbox has an address and is free of the bot.
+    pub(crate) fn is_mailable(&self, mail: &Mail<'_, '_>, mailbox: &Mailbox<'_>) -> bool
+        ensures { result ≡ mailable (letter mail.now) mailbox.now.text.now }
+    {
+        if mailbox.is_nobody() {
+            return false;
+        }
+        let bot = mail.bot;
+        if bot.is_nobody() {
             return true;
         }
+        !contains_small(mailbox.text(), bot.part())
     }
-    false
-}
 
-/// Whether the address is that of a list that is replied to.
-fn is_replied_list(keys: &Mailboxes<'_, '_>, grant: &Grant<'_, '_>, part: &[u8]) -> bool
-    ensures { result ≡ granted_part (texts keys.now) grant.now part.now }
-{
-    grant.every_list || has_marked(keys.entries, grant.lists, part)
-}
-
-/// Whether an address of the mail qualifies, once it is known whether individuals do.
-pub(crate) fn qualifies(
-    keys: &Mailboxes<'_, '_>,
-    grant: &Grant<'_, '_>,
-    individuals: bool,
-    part: &[u8],
-) -> bool
-    ensures { result ≡ (if listed_part (texts keys.now) part.now then granted_part (texts keys.now) grant.now part.now else individuals) }
-{
-    if is_list_address(keys, part) {
-        is_replied_list(keys, grant, part)
-    } else {
-        individuals
+    /// Whether an address of the mail qualifies, once it is known whether individuals do.
+    pub(crate) fn qualifies(
+        &self,
+        mail: &Mail<'_, '_>,
+        individuals: bool,
+        mailbox: &Mailbox<'_>,
+    ) -> bool
+        ensures { result ≡ qualifies_by (keys_in self.now) (letter mail.now) (granted_in self.now) individuals mailbox.now.text.now }
+    {
+        if !is_list_address(&self.keys, mailbox) {
+            return individuals;
+        }
+        self.grant.every_list || has_marked(self.keys.entries, self.grant.lists, mailbox)
     }
 }

@@ -1,90 +1,70 @@
 // Individuals: how many there are.
-ghost use Rattle.std.specs.Prelude.{◌≡◌, ◌+◌, ◌<◌, ◌&&◌, [], map, length, slice_index_or};
+ghost use Rattle.std.specs.Prelude.{◌≡◌, ◌&&◌, map, length};
 ghost use Rattle.audience.specs.Due.{counts, individuals, few};
 ghost use Rattle.audience.specs.Mail.{incoming};
-ghost use Rattle.mail.specs.Letters.{letter, texts};
-ghost use Rattle.grants.specs.Rules.{meant};
+ghost use Rattle.mail.specs.Letters.{letter};
+ghost use Rattle.recipients.specs.Policies.{keys_in, granted_in};
 ghost use Rattle.recipients.specs.Choices.{listed_by};
 
 use crate::domains::is_list_address;
-use grants::Grant;
+use crate::policies::Policies;
+use arrayvec::ArrayVec;
 use keep_first::{Roll, count};
-use mail::{Candidates, Mail, Mailboxes};
+use mail::{Candidates, Mail, Mailbox, push_within};
 
 /// At most so many individuals are mailed; where there are more, none is.
 const MAX_RELAYED_RECIPIENTS: usize = 128;
 
-/// Whether incoming address `i` is an individual's that is counted: not the bot's, and none that is mailed anyhow.
-fn is_counted(
-    mail: &Mail<'_, '_>,
-    keys: &Mailboxes<'_, '_>,
-    grant: &Grant<'_, '_>,
-    i: usize,
-) -> bool
-    requires { i < length (incoming (letter mail.now)) }
-    ensures { result ≡ counts (listed_by (texts keys.now)) (letter mail.now) (meant (texts keys.now) grant.now) (slice_index_or (incoming (letter mail.now)) i []) }
-{
-    let part = mail.people[1 + i].part();
-    if part.is_empty() {
-        return false;
-    }
-    if part.eq_ignore_ascii_case(mail.bot.part()) {
-        return false;
-    }
-    if grant.author && part.eq_ignore_ascii_case(mail.people[0].part()) {
-        return false;
-    }
-    if is_list_address(keys, part) {
-        return false;
-    }
-    !grant.cc.has(part)
-}
+/// 512 addresses each in To and Cc.
+const MOST_INCOMING: usize = 1024;
 
-/// Marks the incoming addresses that are counted.
-fn mark_counted(
-    mail: &Mail<'_, '_>,
-    keys: &Mailboxes<'_, '_>,
-    grant: &Grant<'_, '_>,
-    marks: &mut [bool],
-)
-    requires { length marks.old ≡ length (incoming (letter mail.now)) }
-    ensures { marks.new ≡ map (counts (listed_by (texts keys.now)) (letter mail.now) (meant (texts keys.now) grant.now)) (incoming (letter mail.now)) }
-{
-    for i in 0..marks.len() {
-        marks[i] = is_counted(mail, keys, grant, i);
+impl Policies<'_, '_, '_, '_> {
+    /// Whether an incoming address is an individual's that is counted: not the bot's, and none that is mailed anyhow.
+    fn is_counted(&self, mail: &Mail<'_, '_>, mailbox: &Mailbox<'_>) -> bool
+        ensures { result ≡ counts (listed_by (keys_in self.now)) (letter mail.now) (granted_in self.now) mailbox.now.text.now }
+    {
+        if mailbox.is_nobody() {
+            return false;
+        }
+        if mail.bot.same_bare(mailbox) {
+            return false;
+        }
+        if self.grant.author && mail.people[0].same_bare(mailbox) {
+            return false;
+        }
+        if is_list_address(&self.keys, mailbox) {
+            return false;
+        }
+        !self.grant.cc.has(mailbox.part())
     }
-}
 
-/// How many individuals are counted, each once.
-fn count_individuals(
-    mail: &Mail<'_, '_>,
-    keys: &Mailboxes<'_, '_>,
-    grant: &Grant<'_, '_>,
-    marks: &mut [bool],
-) -> usize
-    requires { length marks.old ≡ length (incoming (letter mail.now)) }
-    ensures { result ≡ length (individuals (listed_by (texts keys.now)) (letter mail.now) (meant (texts keys.now) grant.now)) }
-{
-    mark_counted(mail, keys, grant, marks);
-    let roll = Candidates {
-        start: 1,
-        takes: marks,
-    };
-    count(&roll, mail, &grant.cc)
-}
-
-/// Whether individuals are mailed: they are granted a reply, and few.
-pub fn grants_individuals(
-    mail: &Mail<'_, '_>,
-    keys: &Mailboxes<'_, '_>,
-    grant: &Grant<'_, '_>,
-) -> bool
-    ensures { result ≡ (grant.now.recipients && few (listed_by (texts keys.now)) (letter mail.now) (meant (texts keys.now) grant.now)) }
-{
-    if !grant.recipients {
-        return false;
+    /// A mark for each incoming address: whether it is counted.
+    fn mark_counted(&self, mail: &Mail<'_, '_>) -> ArrayVec<bool, MOST_INCOMING>
+        ensures { result.items ≡ map (counts (listed_by (keys_in self.now)) (letter mail.now) (granted_in self.now)) (incoming (letter mail.now)) }
+    {
+        let mut marks = ArrayVec::new();
+        for mailbox in &mail.people[1..] {
+            push_within(&mut marks, self.is_counted(mail, mailbox));
+        }
+        marks
     }
-    let mut marks = [false; 1024];
-    let n = mail.people.len() - 1;
-    count_individuals(mail, keys, grant, &mut marks[0..n]) <= MAX_RELAYED_RECIPIENTS
+
+    /// How many individuals are counted, each once.
+    fn count_individuals(&self, mail: &Mail<'_, '_>) -> usize
+        ensures { result ≡ length (individuals (listed_by (keys_in self.now)) (letter mail.now) (granted_in self.now)) }
+    {
+        let marks = self.mark_counted(mail);
+        let roll = Candidates {
+            start: 1,
+            takes: marks.as_slice(),
+        };
+        count(&roll, mail, &self.grant.cc)
+    }
+
+    /// Whether individuals are mailed: they are granted a reply, and few.
+    pub fn grants_individuals(&self, mail: &Mail<'_, '_>) -> bool
+        ensures { result ≡ ((granted_in self.now).recipients && few (listed_by (keys_in self.now)) (letter mail.now) (granted_in self.now)) }
+    {
+        self.grant.recipients && self.count_individuals(mail) <= MAX_RELAYED_RECIPIENTS
+    }
 }

@@ -2,9 +2,10 @@
 #![tactic(auto)]
 
 mod candidate;
-mod choice;
 mod domains;
 mod individuals;
+mod marks;
+mod policies;
 
-pub use choice::{mark_cc, mark_to};
-pub use individuals::grants_individuals;
+pub use marks::{MOST_CC, MOST_TO};
+pub use policies::Policies;

@@ -1,18 +1,16 @@
-use Rattle.std.proofs.Common.{sym, ◌∙◌, arith}
-use Rattle.mail.proofs.Searches.{some_all}
-use Rattle.grants.proofs.Said.{ignored_said, short_rolls}
-use Rattle.grants.proofs.Searches.{some_next, some_hit, some-past}
+use Rattle.std.proofs.Common.{rules, tests, Bool, List, ◌∙◌, sym}
+use Rattle.std.proofs.lemmas.Iterator.Consumers.{YieldsList-from_first}
+use Rattle.std.proofs.lemmas.Iterator.Search.{any_from_yields_List}
+use Rattle.address.specs.Text.{Text, small, holds}
+use Rattle.email_policy.specs.TextsLeft.{texts_left}
+use Rattle.email_policy.specs.Texts.{record_of, texts_of}
+use Rattle.email_policy.specs.declared.texts.TextField.TheVariants.{IgnoredEmails}
+use Rattle.keep_first.proofs.Members.{some_is_any}
 use Rattle.grants.proofs.ignored.is_ignored_by.Goals as goal
 
-pub returns-in_default : goal.returns-in_default
-returns-in_default g c = some-past _ _ c.loop-m.m _ c.loop-m.invariant (c.in_default.ensures ∙ ignored_said (g.S.PolicySource.meaning c.args.source.now) c.args.n c.loop-m.m)
-
-pub returns-then-contains_small : goal.returns-then-contains_small
-returns-then-contains_small g c = some_hit _ _ c.loop-m.m _ c.loop-m.invariant c.in-Some.text.now (c.in-Some.ensures ∙ ignored_said (g.S.PolicySource.meaning c.args.source.now) c.args.n c.loop-m.m) (sym c.if-contains_small.ensures)
-
-pub loop-m-preserved : goal.loop-m-preserved
-loop-m-preserved g c = some_next _ _ c.loop-m.m _ c.loop-m.invariant c.in-Some.text.now (c.in-Some.ensures ∙ ignored_said (g.S.PolicySource.meaning c.args.source.now) c.args.n c.loop-m.m) (sym c.if-contains_small.ensures)
-
--- a roll has no more texts than are asked
 pub returns : goal.returns
-returns g c = some_all _ _ c.loop-m.m _ c.loop-m.invariant (omega (arith, (short_rolls (g.S.PolicySource.meaning c.args.source.now) c.args.n (g.S.PolicySource.lawful c.args.source.now)).ignored))
+returns g c =
+    let ignores : Text → Bool = λ t. holds (small c.args.author.now) (small t) in
+    let texts : List Text = texts_of IgnoredEmails (record_of (g.S.PolicySource.meaning c.args.source.now) c.args.whose) in
+    any_from_yields_List ignores c.any.new.self _ c.any.result c.any.ensures.ran (YieldsList-from_first (λ x. x.now) (texts_left g.S.PolicySource.meaning) texts c.source_texts.ensures.texts) (λ x b q k. search (rules, tests))
+    ∙ sym (some_is_any ignores texts)

@@ -1,10 +1,14 @@
-use Rattle.std.proofs.Common.{◌≡◌, map, take}
+use Rattle.std.proofs.Common.{◌≡◌, [], map, drop}
 use Rattle.address.specs.Address.{same_bare}
 use Rattle.keep_first.specs.Keep.{some}
 use Rattle.audience.specs.Mail.{incoming}
 use Rattle.mail.specs.Letters.{letter, texts}
-use Rattle.mail.specs.Marks.{over}
+use Rattle.mail.specs.Parts.{text_in}
+use Rattle.mail.specs.Tables.{filled}
 use Rattle.grants.proofs.lists.find_named.Given as goal
 
-abbrev pub invariant-loop-n : goal.invariant-loop-n
-invariant-loop-n l = l.marks ≡ over (take l.n (map (λ k. some (same_bare k) (incoming (letter l.mail))) (texts l.keys))) l.initial.marks
+-- what is left to mark
+abbrev pub invariant-loop-key : goal.invariant-loop-key
+invariant-loop-key g l =
+    filled g.row.N l.marks.items (map (λ k. some (same_bare k) (incoming (letter l.mail))) (map text_in (drop l.key-index l.keys.entries.now)))
+    ≡ filled g.row.N [] (map (λ k. some (same_bare k) (incoming (letter l.mail))) (texts l.keys))

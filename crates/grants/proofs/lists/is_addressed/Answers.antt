@@ -1,23 +1,23 @@
-use Rattle.std.proofs.cmp.Tests.{cases_from_iff}
-use Rattle.std.proofs.Common.{sym, ap, ◌∙◌}
-use Rattle.address.specs.Text.{small}
-use Rattle.mail.specs.Parts.{same_part, part_in}
-use Rattle.mail.proofs.Searches.{some_more, some-found, some_all, same_bytes, other_bytes}
-use Rattle.grants.proofs.Addressed.{asked}
+use Rattle.std.proofs.Common.{rules, tests, ◌-◌, Bool, List, length, drop, sym, ap, ◌∙◌, arith}
+use Rattle.std.proofs.lemmas.List.{length-drop, take_all}
+use Rattle.std.proofs.lemmas.Iterator.{YieldsList-from_slice}
+use Rattle.std.proofs.lemmas.Iterator.Search.{any_from_yields_List}
+use Rattle.address.specs.Text.{Text}
+use Rattle.address.specs.Address.{address_part}
+use Rattle.keep_first.specs.Keep.{some}
+use Rattle.keep_first.proofs.Alike.{some-map}
+use Rattle.mail.specs.declared.mailbox.Mailbox.{Mailbox}
+use Rattle.mail.specs.Addresses.{same_part}
+use Rattle.mail.specs.Parts.{text_in}
+use Rattle.keep_first.proofs.Members.{some_is_any}
+use Rattle.grants.proofs.Addressed.{incoming_is}
 use Rattle.grants.proofs.lists.is_addressed.Goals as goal
-
-pub returns-then-eq_ignore_ascii_case : goal.returns-then-eq_ignore_ascii_case
-returns-then-eq_ignore_ascii_case c =
-    some-found (λ m. same_part c.args.part.now (part_in m)) c.args.mail.now.people.now c.loop-k.k _ c.loop-k.invariant _ c.loop-k-test.true
-    (same_bytes _ _ ((cases_from_iff c.if-eq_ignore_ascii_case.ensures.test) ∙ ap small c.part.ensures))
-    ∙ asked c.args.mail.now (same_part c.args.part.now)
-
-pub loop-k-preserved : goal.loop-k-preserved
-loop-k-preserved c =
-    some_more (λ m. same_part c.args.part.now (part_in m)) c.args.mail.now.people.now c.loop-k.k _ c.loop-k.invariant _ c.loop-k-test.true
-    (other_bytes _ _ (λ e. (cases_from_iff c.if-eq_ignore_ascii_case.ensures.test) (e ∙ ap small (sym c.part.ensures))))
 
 pub returns : goal.returns
 returns c =
-    some_all (λ m. same_part c.args.part.now (part_in m)) c.args.mail.now.people.now c.loop-k.k _ c.loop-k.invariant c.loop-k-test.false
-    ∙ asked c.args.mail.now (same_part c.args.part.now)
+    let people : List Mailbox = c.args.mail.now.people.now in
+    let here : Text → Bool = λ t. same_part c.args.part.now (address_part t) in
+    any_from_yields_List (λ (m : Mailbox). here (text_in m)) _ _ c.any.result c.any.ensures.ran (YieldsList-from_slice (drop 1 people) (c.iter.ensures.rest ∙ take_all (length people - 1) (drop 1 people) (omega (arith, length-drop 1 people)))) (λ x b q k. search (rules, tests))
+    ∙ sym (some_is_any (λ (m : Mailbox). here (text_in m)) (drop 1 people))
+    ∙ some-map text_in here (drop 1 people)
+    ∙ ap (some here) (sym (incoming_is c.args.mail.now))

@@ -1,22 +1,17 @@
-use Rattle.std.proofs.cmp.Tests.{cases_from_iff}
-use Rattle.std.proofs.Common.{◌∙◌}
-use Rattle.mail.specs.Parts.{same_part, part_in}
-use Rattle.mail.proofs.Searches.{some_more, some-found, some_all, same_bytes, other_bytes}
-use Rattle.mail.proofs.Numbered.{some_part}
+use Rattle.std.proofs.Common.{rules, tests, Bool, ◌∙◌, sym}
+use Rattle.std.proofs.lemmas.Iterator.{YieldsList-from_slice}
+use Rattle.std.proofs.lemmas.Iterator.Search.{any_from_yields_List}
+use Rattle.address.specs.Address.{address_part}
+use Rattle.keep_first.proofs.Alike.{some-map}
+use Rattle.mail.specs.declared.mailbox.Mailbox.{Mailbox}
+use Rattle.mail.specs.Addresses.{same_part}
+use Rattle.mail.specs.Parts.{text_in}
+use Rattle.keep_first.proofs.Members.{some_is_any}
 use Rattle.mail.proofs.list.Mailboxes.has.Goals as goal
-
-pub returns-then-eq_ignore_ascii_case : goal.returns-then-eq_ignore_ascii_case
-returns-then-eq_ignore_ascii_case c =
-    some-found (λ m. same_part c.args.part.now (part_in m)) c.args.self.now.entries.now c.loop-mailbox.mailbox-index _ c.loop-mailbox.invariant _ c.loop-mailbox-test.true
-    (same_bytes _ _ (cases_from_iff c.if-eq_ignore_ascii_case.ensures.test))
-    ∙ some_part (same_part c.args.part.now) c.args.self.now.entries.now c.args.self.now.parted
-
-pub loop-mailbox-preserved : goal.loop-mailbox-preserved
-loop-mailbox-preserved c =
-    some_more (λ m. same_part c.args.part.now (part_in m)) c.args.self.now.entries.now c.loop-mailbox.mailbox-index _ c.loop-mailbox.invariant _ c.loop-mailbox-test.true
-    (other_bytes _ _ (cases_from_iff c.if-eq_ignore_ascii_case.ensures.test))
 
 pub returns : goal.returns
 returns c =
-    some_all (λ m. same_part c.args.part.now (part_in m)) c.args.self.now.entries.now c.loop-mailbox.mailbox-index _ c.loop-mailbox.invariant c.loop-mailbox-test.false
-    ∙ some_part (same_part c.args.part.now) c.args.self.now.entries.now c.args.self.now.parted
+    let at : Mailbox → Bool = λ m. same_part c.args.part.now (address_part (text_in m)) in
+    any_from_yields_List at _ _ c.any.result c.any.ensures.ran (YieldsList-from_slice c.args.self.now.entries.now cc) (λ x b q k. search (rules, tests))
+    ∙ sym (some_is_any at c.args.self.now.entries.now)
+    ∙ some-map text_in (λ t. same_part c.args.part.now (address_part t)) c.args.self.now.entries.now
