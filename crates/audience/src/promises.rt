@@ -5,64 +5,46 @@ ghost use Rattle.audience.specs.Counterexamples.{NoneOfTheseHolds};
 ghost use Rattle.audience.specs.Table.{WorkedExamples};
 
 /// The first answer is mute only where it must be, and else mails exactly the bares due, each once.
-pub fn answers_reach_the_due() -> u8
+pub fn answers_reach_the_due()
     ensures { EveryAnswerReachesTheDue }
-{
-    0
-}
+{}
 
 /// Under merged rank all, a positive answer mails only bares that are due.
-pub fn positives_stay_within_the_due() -> u8
+pub fn positives_stay_within_the_due()
     ensures { EveryPositiveWithinDue }
-{
-    0
-}
+{}
 
 /// Of a list that the mail does not name, only its key and what it ignores are heard.
-pub fn unnamed_lists_are_unheard() -> u8
+pub fn unnamed_lists_are_unheard()
     ensures { UnnamedListsUnheard }
-{
-    0
-}
+{}
 
 /// A list that the mail does not name may even come and go, if it ignores nothing new.
-pub fn only_the_named_are_heard() -> u8
+pub fn only_the_named_are_heard()
     ensures { OnlyTheNamedAreHeard }
-{
-    0
-}
+{}
 
 /// No answer mails the bot.
-pub fn bot_is_never_mailed() -> u8
+pub fn bot_is_never_mailed()
     ensures { BotUnmailed }
-{
-    0
-}
+{}
 
 /// There are few individuals exactly when as many texts as may be mailed cover them.
-pub fn few_is_covered() -> u8
+pub fn few_is_covered()
     ensures { FewIsCovered }
-{
-    0
-}
+{}
 
 /// A blank author text is nobody's.
-pub fn blank_text_is_nobody() -> u8
+pub fn blank_text_is_nobody()
     ensures { BlankIsNobody }
-{
-    0
-}
+{}
 
 /// Statements close to these are false.
-pub fn neighbours_fail() -> u8
+pub fn neighbours_fail()
     ensures { NoneOfTheseHolds }
-{
-    0
-}
+{}
 
 /// The worked examples come out as they say.
-pub fn examples_hold() -> u8
+pub fn examples_hold()
     ensures { WorkedExamples }
-{
-    0
-}
+{}

@@ -4,3 +4,7 @@ pub mod Places
 pub mod Sends
 pub mod Choosing
 pub mod Opens
+pub mod Ranks
+pub mod Alone
+pub mod Lists
+pub mod Accepted

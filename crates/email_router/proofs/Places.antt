@@ -32,9 +32,6 @@ module _ (r : Candidates) (m : Mail) (l : Mailboxes) where
     unfolding kept_places
     counted = (answered-some classes slots preferred k answer).1
 
-    pub few_counted : k ≤ 9249
-    few_counted = omega (arith, counted, few-places)
-
     -- the first k slots, as the code cuts them out
     pub places_held : (after : List ℕ) → after ≡ kept_slots classes preferred slots → take (k - 0) after ≡ kept_places r m l
     unfolding kept_places

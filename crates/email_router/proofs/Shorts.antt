@@ -17,10 +17,10 @@ length-trimmed t =
     let b = length-take (length (unindented t) - suffix_len blank (unindented t)) (unindented t) in
     omega arith
 
-abbrev Short : List Text → Type 0
+abbrev pub Short : List Text → Type 0
 Short ts = (k : ℕ) → length (text_at ts k) < 65536
 
-short_append : (ts us : List Text) → Short ts → Short us → Short (ts ++ us)
+pub short_append : (ts us : List Text) → Short ts → Short us → Short (ts ++ us)
 short_append ts us a b k = elim (cases_lt k (length ts)) [
   | inl h ↦ rw (get_or_append_left ts us [] k h) (a k)
   | inr h ↦ rw (get_or-append_right ts us (length ts) k [] refl h) (b (k - length ts))

@@ -3,8 +3,8 @@ ghost use Rattle.std.specs.Prelude.{◌≡◌};
 ghost use Rattle.email_router.specs.Door.{paired, not_too_long, asked};
 
 use crate::fault::{Incoming, Person, RouterFault};
-use address::{TextFault, check_text};
-use roll::{RollFault, check_roll, check_texts};
+use address::check_text;
+use roll::{check_roll, check_texts};
 
 /// An author or a bot has at most so many bytes.
 const LONGEST_TEXT: usize = 998;
@@ -12,24 +12,13 @@ const LONGEST_TEXT: usize = 998;
 /// One for each candidate there can be.
 pub(crate) const SLOTS_NEEDED: usize = 9249;
 
-/// A roll's fault, with the roll that it is of.
-fn in_roll(roll: Incoming, told: Result<(), RollFault>) -> Result<(), (Incoming, RollFault)>
-    ensures { result ≡ paired roll told }
+/// A fault, with the argument that it is of.
+fn of<A, E>(argument: A, told: Result<(), E>) -> Result<(), (A, E)>
+where
+    A: Drop,
+    ensures { result ≡ paired argument told }
 {
-    match told {
-        Ok(()) => Ok(()),
-        Err(fault) => Err((roll, fault)),
-    }
-}
-
-/// A text's fault, with the person whose text it is.
-fn in_text(person: Person, told: Result<(), TextFault>) -> Result<(), (Person, TextFault)>
-    ensures { result ≡ paired person told }
-{
-    match told {
-        Ok(()) => Ok(()),
-        Err(fault) => Err((person, fault)),
-    }
+    told.map_err(|fault| (argument, fault))
 }
 
 fn check_length(person: Person, text: &[u8]) -> Result<(), RouterFault>
@@ -51,14 +40,14 @@ pub(crate) fn check(
 ) -> Result<(), RouterFault>
     ensures { result ≡ asked to.now cc.now author.now bot.now scratch.now }
 {
-    in_roll(Incoming::To, check_roll(to))?;
-    in_roll(Incoming::Cc, check_roll(cc))?;
+    of(Incoming::To, check_roll(to))?;
+    of(Incoming::Cc, check_roll(cc))?;
     check_length(Person::Author, author)?;
     check_length(Person::Bot, bot)?;
-    in_roll(Incoming::To, check_texts(to))?;
-    in_roll(Incoming::Cc, check_texts(cc))?;
-    in_text(Person::Author, check_text(author))?;
-    in_text(Person::Bot, check_text(bot))?;
+    of(Incoming::To, check_texts(to))?;
+    of(Incoming::Cc, check_texts(cc))?;
+    of(Person::Author, check_text(author))?;
+    of(Person::Bot, check_text(bot))?;
     if scratch.len() < SLOTS_NEEDED {
         return Err(RouterFault::Scratch(SLOTS_NEEDED));
     }

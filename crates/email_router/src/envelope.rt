@@ -122,9 +122,7 @@ fn write_action(
 fn clear(slots: &mut [u16])
     ensures { slots.new ≡ replicate (length slots.old) 0 }
 {
-    for slot in slots.iter_mut() {
-        *slot = 0;
-    }
+    slots.fill(0);
 }
 
 /// Writes the answer to the front of the tray and leaves every slot 0. Where the tray is too short, nothing is changed: the
@@ -155,7 +153,7 @@ pub(crate) fn deliver(
 pub(crate) fn deliver_nothing(scratch: &mut [u16], tray: &mut [u8]) -> Result<usize, RouterFault>
     ensures { given result scratch.new tray.new ≡ answered nothing scratch.old tray.old }
 {
-    if tray.len() < 1 {
+    if tray.is_empty() {
         return Err(RouterFault::Tray(1));
     }
     tray[0] = 0;

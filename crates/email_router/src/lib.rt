@@ -1,7 +1,8 @@
-//! What the two resolve calls stand on: their questions at the door, their faults, and the envelope that they write.
+//! The two resolve calls: what they ask at the door and its faults, who is mailed, and the envelope that they write.
 #![tactic(auto)]
 
 mod action;
+mod calls;
 mod chosen;
 mod door;
 mod envelope;
@@ -9,6 +10,8 @@ mod fault;
 mod laws;
 mod measure;
 mod report;
+mod resolve;
 
+pub use calls::{resolve_positive_recipients, resolve_recipients};
 pub use fault::{Incoming, Person, RouterFault};
 pub use laws::envelopes_stand;

@@ -18,6 +18,7 @@ fn measure(roll: &Candidates<'_>, mail: &Mail<'_, '_>, added: &Mailboxes<'_, '_>
 {
     let mut texts = 0;
     let mut bytes = 0;
+    // by number: `standing` is asked of a place
     for i in 0..roll.takes.len() {
         if let Some(place) = standing(roll, mail, added, i) {
             texts += 1;

@@ -15,45 +15,49 @@ fn roll_number(roll: Incoming) -> u8
     }
 }
 
-fn roll_part(roll: Incoming) -> Part
-    ensures { result ≡ roll_part roll }
-{
-    match roll {
-        Incoming::To => Part::To,
-        Incoming::Cc => Part::Cc,
+impl From<Incoming> for Part {
+    ghost from_gives = { λ roll r. r ≡ roll_part roll };
+
+    fn from(roll: Incoming) -> Part {
+        match roll {
+            Incoming::To => Part::To,
+            Incoming::Cc => Part::Cc,
+        }
     }
 }
 
-fn person_part(person: Person) -> Part
-    ensures { result ≡ person_part person }
-{
-    match person {
-        Person::Author => Part::Author,
-        Person::Bot => Part::Bot,
+impl From<Person> for Part {
+    ghost from_gives = { λ person r. r ≡ person_part person };
+
+    fn from(person: Person) -> Part {
+        match person {
+            Person::Author => Part::Author,
+            Person::Bot => Part::Bot,
+        }
     }
 }
 
-impl RouterFault {
-    /// The number of the question that was answered no: 1 and 2 for the rolls, 3 for a length, 4 for a byte, 5 for the
-    /// scratch and 6 for the tray.
-    pub fn report(&self) -> Report
-        ensures { result ≡ router_report self.now }
-    {
-        let (number, layer, part, place) = match *self {
+/// The number of the question that was answered no: 1 and 2 for the rolls, 3 for a length, 4 for a byte, 5 for the
+/// scratch and 6 for the tray.
+impl From<RouterFault> for Report {
+    ghost from_gives = { λ fault r. r ≡ router_report fault };
+
+    fn from(fault: RouterFault) -> Report {
+        let (number, layer, part, place) = match fault {
             RouterFault::Roll(roll, RollFault::InText(bad)) => (
                 4,
                 Layer::Text,
-                roll_part(roll),
+                Part::from(roll),
                 bad.place,
             ),
             RouterFault::Roll(roll, fault) => (
                 roll_number(roll),
                 Layer::Roll,
-                roll_part(roll),
+                Part::from(roll),
                 fault.place(),
             ),
-            RouterFault::TooLong(person, at) => (3, Layer::Router, person_part(person), at),
-            RouterFault::Text(person, bad) => (4, Layer::Text, person_part(person), bad.place),
+            RouterFault::TooLong(person, at) => (3, Layer::Router, Part::from(person), at),
+            RouterFault::Text(person, bad) => (4, Layer::Text, Part::from(person), bad.place),
             RouterFault::Scratch(needed) => (5, Layer::Router, Part::Scratch, needed),
             RouterFault::Tray(needed) => (6, Layer::Router, Part::Tray, needed),
         };

@@ -1,5 +1,5 @@
-use Rattle.std.proofs.Common.{◌≤◌, length, arith}
-use Rattle.email_router.proofs.Places.{few_counted, places_held, roll_left_out, roll_accepted, roll_room, roll_wrote}
+use Rattle.std.proofs.Common.{arith}
+use Rattle.email_router.proofs.Places.{places_held, roll_left_out, roll_accepted, roll_room, roll_wrote}
 use Rattle.email_router.proofs.envelope.write_part.Goals as goal
 
 pub returns-then-count-eq0 : goal.returns-then-count-eq0
@@ -10,12 +10,6 @@ returns-then-count-eq0 c =
 pub returns-in_default-write_word : goal.returns-in_default-write_word
 returns-in_default-write_word c =
     absurd (roll_accepted c.args.roll.now c.args.mail.now c.args.added.now c.args.slots.now c.in-Some.count c.in-Some.ensures.answer c.args.tray.now c.args.at c.requires.room (omega arith) c.in_default-write_word.ensures.end)
-
-pub slice_bounds-write_texts-end : goal.slice_bounds-write_texts-end
-slice_bounds-write_texts-end c =
-    let few = few_counted c.args.roll.now c.args.mail.now c.args.added.now c.args.slots.now c.in-Some.count c.in-Some.ensures.answer in
-    let within : c.in-Some.count ≤ length c.keep_first.new.slots = omega arith in
-    omega arith
 
 pub write_texts-requires : goal.write_texts-requires
 write_texts-requires c =

@@ -1,5 +1,4 @@
-use Rattle.std.proofs.Common.{◌≡◌, ℕ, take, ap, ◌∙◌, arith}
-use Rattle.std.proofs.lemmas.List.{take_all}
+use Rattle.std.proofs.Common.{◌≡◌, ℕ, ap, ◌∙◌, arith}
 use Rattle.address.specs.Text.{Text, trimmed}
 use Rattle.mail.specs.Rolls.{text_at, roll_texts}
 use Rattle.roll.proofs.Sized.{pack_texts_none}
@@ -21,9 +20,3 @@ loop-place-preserved c =
       | in-Some w ↦ rw w.end-is (row_wrote text short c.args.places.now c.loop-place.place-index _ _ _ _ c.loop-place.invariant (omega arith) (omega arith) _ _ is c.write_text.ensures.tray w.in-Some.next w.in-Some.ensures.end)
       | in_default w ↦ absurd (row_accepted text short c.args.places.now c.loop-place.place-index _ _ _ _ c.loop-place.invariant (omega arith) (omega arith) _ _ is c.write_text.ensures.tray w.in_default.ensures.end)
     ]
-
-pub returns : goal.returns
-returns c =
-    let all : take c.loop-place.place-index c.args.places.now ≡ c.args.places.now = take_all _ _ (omega arith) in
-    let w = rw all at c.loop-place.invariant in
-    record { end = w.ends; tray = w.holds }

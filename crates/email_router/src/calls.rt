@@ -13,9 +13,6 @@ use grants::Pass;
 use mail::{Mail, Mailbox, read_people};
 use roll::Roll;
 
-/// The author, and 512 addresses each in To and Cc.
-const MOST_PEOPLE: usize = 1025;
-
 /// Asks the questions, reads the mail, and mails the review.
 fn resolve_for<'m, S: PolicySource>(
     source: &S,
@@ -32,10 +29,9 @@ fn resolve_for<'m, S: PolicySource>(
     check(to, cc, author, bot, scratch)?;
     let to = Roll::new(to);
     let cc = Roll::new(cc);
-    let mut table = [Mailbox::new(&[]); MOST_PEOPLE];
-    let count = read_people(author, &to, &cc, &mut table);
+    let people = read_people(author, &to, &cc);
     let mail = Mail {
-        people: &table[0..count],
+        people: people.as_slice(),
         to: to.len(),
         bot: Mailbox::new(bot),
     };
