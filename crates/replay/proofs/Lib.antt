@@ -1,4 +1,2 @@
-pub mod AddressLines
 pub mod HexDigits
 pub mod Trays
-pub mod Writing

@@ -1,6 +1,8 @@
--- Numbers in decimal, digit by digit, and what a word picks.
-use Rattle.std.proofs.Common.{◌≡◌, ℕ, ◌+◌, ◌*◌, ◌<◌, ◌≤◌, Bool, true, false, cond, eqb, List, [], ◌∷◌, length, get_or, drop, Some, None, sym, refl, ap, ◌∙◌}
-use Rattle.std.proofs.lemmas.List.{at_drop_more, at_drop_all}
+-- Numbers in decimal, digit by digit, and words, byte by byte.
+use Rattle.std.proofs.Common.{arith, ◌≡◌, ℕ, ◌+◌, ◌*◌, ◌<◌, ◌≤◌, false, eqb, List, [], ◌∷◌, length, get_or, drop, Some, None, sym, refl, ap, ◌∙◌}
+use Rattle.std.proofs.Common.{codes, true}
+use Rattle.std.specs.Str.{bytes_eq}
+use Rattle.std.proofs.lemmas.List.{drop_more, drop_all, at_drop_more, at_drop_all}
 use Rattle.std.proofs.lemmas.Bool.{cond-true, cond-false, lt-ltb, le-ltb, false≢true}
 use Rattle.replay.specs.Lines.{more_digits, decimal_digit, number_from, number_of}
 
@@ -25,10 +27,15 @@ module _ (text : List ℕ) (i n : ℕ) (h : i < length text) where
 pub number_all : (text : List ℕ) (i n : ℕ) → length text ≤ i → number_from n (drop i text) ≡ Some n
 number_all text i n h = at_drop_all (number_from n) text i h
 
--- what holds of the side that is picked holds of the choice
-module _ {A : Type 0} (P : A → Type 0) (b : Bool) (x y : A) where
-  pub picked : true ≡ b → P x → P (cond b x y)
-  picked e p = rw (sym e) p
+-- the bytes of w from place i on are those of u
+abbrev pub Spells : List ℕ → ℕ → List ℕ → Type 0
+Spells w i [] = Unit {0}
+Spells w i (b ∷ u) = (get_or w i 0 ≡ b) × Spells w (i + 1) u
 
-  pub passed : false ≡ b → P y → P (cond b x y)
-  passed e p = rw (sym e) p
+pub spelled : (w : List ℕ) (i : ℕ) (u : List ℕ) → length w ≡ i + length u → Spells w i u → drop i w ≡ u
+spelled w i [] e h = drop_all i w (omega arith)
+spelled w i (b ∷ u) e h = drop_more w i 0 (omega arith) ∙ (λ k. h.0 k ∷ spelled w (i + 1) u (omega arith) h.1 k)
+
+-- seven bytes that are those of a word
+pub word_address : (w : List ℕ) → length w ≡ 7 → get_or w 0 0 ≡ 97 → get_or w 1 0 ≡ 100 → get_or w 2 0 ≡ 100 → get_or w 3 0 ≡ 114 → get_or w 4 0 ≡ 101 → get_or w 5 0 ≡ 115 → get_or w 6 0 ≡ 115 → bytes_eq w (codes "address") ≡ true
+word_address w n a b c d e f g = ap (λ u. bytes_eq u (codes "address")) (spelled w 0 (codes "address") n (a, (b, (c, (d, (e, (f, (g, tt))))))))

@@ -1,8 +1,8 @@
 -- Lines of the program: words that single spaces part, and what is printed.
-use Rattle.std.specs.Prelude.{◌≡◌, ℕ, ◌+◌, ◌-◌, ◌*◌, Bool, true, cond, ◌&&◌, ◌⊎◌, List, [], ◌∷◌, ◌++◌, length, take, replicate, is_some, Some, None, Ok, Err, vec_items, codes, decimal, Option, Result, MatchResult, ◌==◌, nat_eq, nat_le, nat_lt, slice_index}
+use Rattle.std.specs.Prelude.{◌≡◌, ℕ, ◌+◌, ◌-◌, ◌*◌, Bool, true, cond, ◌&&◌, ◌⊎◌, List, [], ◌∷◌, ◌++◌, length, take, position, replicate, is_some, Some, None, Ok, Err, vec_items, codes, alloc_error, decimal, Option, Result, MatchResult, ◌==◌, nat_le, nat_lt, slice_index}
 use Rattle.std.specs.Option.{option_map}
 use Rattle.std.specs.Str.{bytes_eq}
-use Rattle.address.specs.Text.{Text, small, first_place}
+use Rattle.address.specs.Text.{Text, small}
 use Rattle.address.specs.Address.{sides_at, address_part, domain}
 use Rattle.replay.specs.declared.turn.LineFault.{LineFault}
 use Rattle.replay.specs.declared.turn.LineFault.TheVariants.{UnknownWord, MissingArgument, ExtraArgument, NotHex, NotTray, NotSource, NoPackedBook, NoMemory}
@@ -10,23 +10,19 @@ use Rattle.replay.specs.declared.turn.Turn.{Turn}
 use Rattle.replay.specs.declared.turn.Turn.TheVariants.{Address, Open, WritePacked}
 use Rattle.replay.specs.Hex.{hex, unhex, byte_of, digit_value}
 use Rattle.email_policy.specs.Lawful.{pack_book}
-use Rattle.email_policy.specs.declared.fault.Layer.{Layer}
-use Rattle.email_policy.specs.declared.fault.Layer.TheVariants.{Text as InText, Roll as InRoll, Record as InRecord, Book as InBook, Router as InRouter}
-use Rattle.email_policy.specs.declared.report.Report.{Report}
+use Rattle.email_policy.specs.Words.{reported_words}
 use Rattle.packed_book.specs.Ends.{whole_book}
 use Rattle.packed_book.specs.Reading.{read_book}
-use Rattle.email_policy.specs.declared.fault.Part.{Part}
-use Rattle.email_policy.specs.declared.fault.Part.TheVariants.{To as the_to, Cc as the_cc, Author as the_author, Bot as the_bot, Scratch as the_scratch, Tray as the_tray, Key as the_key, Record as the_record, Book as the_book}
 use Rattle.packed_book.specs.Reports.{open_report, tray_report}
 use Rattle.packed_book.specs.Writing.{write_answer, write_tray}
 use Rattle.packed_book.specs.declared.fault.OpenFault.{OpenFault}
 use Rattle.packed_book.specs.declared.write.TrayTooShort.{TrayTooShort}
 use Rattle.replay.specs.declared.line.Outcome.{Outcome}
-use Rattle.replay.specs.declared.line.Outcome.TheVariants.{Done, Unreadable, NoMemoryLeft}
+use Rattle.replay.specs.declared.line.Outcome.TheVariants.{Done, Unreadable}
 
 -- what stands before the first c, and what follows it
 abbrev pub parted_at : ℕ → List ℕ → Option (List ℕ × List ℕ)
-parted_at c l = option_map (sides_at l) (first_place (λ b. nat_eq b c) l)
+parted_at c l = option_map (sides_at l) (position (λ b. b == c) l)
 
 -- the same at the first space
 abbrev pub parted : List ℕ → Option (List ℕ × List ℕ)
@@ -126,7 +122,7 @@ read_line line = parts line (parted line)
 
 -- so it is read, unless memory fails
 abbrev pub UnlessMemory : {T U : Type 0} → (T → U) → Result T LineFault → Result U LineFault → Type 0
-UnlessMemory value r s = MatchResult r (λ t. s ≡ Ok (value t)) (λ f. (f ≡ NoMemory) ⊎ (s ≡ Err f))
+UnlessMemory value r s = MatchResult r (λ t. s ≡ Ok (value t)) (λ f. (f ≡ NoMemory alloc_error) ⊎ (s ≡ Err f))
 
 abbrev pub asked : Turn → Asked
 asked (Address text) = address (vec_items text)
@@ -159,38 +155,13 @@ why_text NotHex = codes "the bytes are not lower-case hex"
 why_text NotTray = codes "the tray is not N:hh"
 why_text NotSource = codes "the source is not packed"
 why_text NoPackedBook = codes "no packed book is open"
-why_text NoMemory = codes "there is no memory for it"
+why_text (NoMemory e) = codes "there is no memory for it"
 
 abbrev pub unreadable_for : ℕ → List ℕ → List ℕ
 unreadable_for number why = codes "unreadable " ++ (decimal number ++ (codes ": " ++ (why ++ codes "\n")))
 
 abbrev pub unreadable_line : ℕ → LineFault → List ℕ
 unreadable_line number f = unreadable_for number (why_text f)
-
-abbrev pub layer_word : Layer → List ℕ
-layer_word InText = codes "text"
-layer_word InRoll = codes "roll"
-layer_word InRecord = codes "record"
-layer_word InBook = codes "book"
-layer_word InRouter = codes "router"
-
--- a refusal: its number, its layer, the part and the place
-abbrev pub fault_words : ℕ → List ℕ → List ℕ → ℕ → List ℕ
-fault_words number layer part place = codes "fault " ++ (decimal number ++ (codes " " ++ (layer ++ (codes " " ++ (part ++ (codes " " ++ decimal place))))))
-
-abbrev pub part_word : Part → List ℕ
-part_word the_to = codes "to"
-part_word the_cc = codes "cc"
-part_word the_author = codes "author"
-part_word the_bot = codes "bot"
-part_word the_scratch = codes "scratch"
-part_word the_tray = codes "tray"
-part_word the_key = codes "key"
-part_word the_record = codes "record"
-part_word the_book = codes "book"
-
-abbrev pub reported_words : Report → List ℕ
-reported_words r = fault_words r.number (layer_word r.layer) (part_word r.part) r.place
 
 -- the packed book that is open, if one is, by its bytes
 abbrev pub State : Type 0
@@ -243,9 +214,3 @@ shown_given s number (Err f) = record { outcome = Unreadable; added = unreadable
 
 abbrev pub shown : State → ℕ → List ℕ → Shown
 shown s number line = cond (passed_over line) (record { outcome = Done; added = []; state = s }) (shown_given s number (with_ok (read_line line) (given s)))
-
--- so it is shown, unless memory fails
-abbrev pub Shows : Outcome → List ℕ → List ℕ → State → Shown → Type 0
-Shows NoMemoryLeft before after state s = Unit {0}
-Shows Done before after state s = (s.outcome ≡ Done) × (after ≡ before ++ s.added) × (state ≡ s.state)
-Shows Unreadable before after state s = (s.outcome ≡ Unreadable) × (after ≡ before ++ s.added) × (state ≡ s.state)

@@ -1,17 +1,27 @@
 // Bytes as lower-case hex, with `-` for no bytes.
-ghost use Rattle.std.specs.Prelude.{◌≡◌, ◌<◌, ◌++◌, map, IfSome, IfOk, vec_items, OnOk};
+ghost use Rattle.std.specs.Prelude.{◌≡◌, ◌<◌, IfSome, IfOk, Some, vec_items};
 ghost use Rattle.std.specs.Option.{option_map};
-ghost use Rattle.std.specs.Char.{to_ascii_lowercase};
-ghost use Rattle.std.specs.List.{flat_map};
-ghost use Rattle.replay.specs.Hex.{digit as digit_of, digits, digit_value, byte_of, bytes_of, unhex as unhexed, hex, HexReadsBack};
+ghost use Rattle.replay.specs.Hex.{digit_value, byte_of, bytes_of, unhex as unhexed, hex, HexReadsBack};
 
 use std::alloc::{AllocError, Global};
+use std::fmt;
 
-fn digit(n: u8) -> u8
-    requires { n < 16 }
-    ensures { result ≡ digit_of n }
-{
-    if n < 10 { b'0' + n } else { 87 + n }
+/// Bytes that print in hex.
+#[derive(Clone, Copy)]
+pub struct Hex<'a>(pub &'a [u8]);
+
+impl fmt::Display for Hex<'_> {
+    ghost output = { λ h. Some (hex h.0.now) };
+
+    fn fmt<W: fmt::Write>(&self, f: &mut fmt::Formatter<W>) -> fmt::Result {
+        if self.0.is_empty() {
+            return write!(f, "-");
+        }
+        for &b in self.0 {
+            write!(f, "{b:02x}")?;
+        }
+        Ok(())
+    }
 }
 
 fn value(c: u8) -> Option<u8>
@@ -20,7 +30,7 @@ fn value(c: u8) -> Option<u8>
 {
     match c {
         b'0'..=b'9' => Some(c - b'0'),
-        b'a'..=b'f' => Some(c - 87),
+        b'a'..=b'f' => Some(c - b'a' + 10),
         _ => None,
     }
 }
@@ -34,61 +44,33 @@ pub fn pair(high: u8, low: u8) -> Option<u8>
     Some(h * 16 + l)
 }
 
-fn push_digits(out: &mut Vec<u8>, bytes: &[u8]) -> Result<(), AllocError>
-    ensures { OnOk result (out.new.items ≡ out.old.items ++ flat_map digits bytes.now) }
-{
-    for b in bytes {
-        out.push(digit(*b / 16))?;
-        out.push(digit(*b % 16))?;
-    }
-    Ok(())
-}
-
-/// Adds the bytes in hex.
-pub fn push_hex(out: &mut Vec<u8>, bytes: &[u8]) -> Result<(), AllocError>
-    ensures { OnOk result (out.new.items ≡ out.old.items ++ hex bytes.now) }
-{
-    if bytes.is_empty() {
-        out.push(b'-')?;
-        return Ok(());
-    }
-    push_digits(out, bytes)
-}
-
 fn read_digits(heap: Global, text: &[u8]) -> Result<Option<Vec<u8>>, AllocError>
     ensures { IfOk result (λ o. option_map vec_items o ≡ bytes_of text.now) }
 {
     let mut bytes = Vec::new(heap);
     let mut rest = text;
-    while rest.len() >= 2 {
-        let Some(b) = pair(rest[0], rest[1]) else {
+    while let [high, low, more @ ..] = rest {
+        let Some(b) = pair(*high, *low) else {
             return Ok(None);
         };
         bytes.push(b)?;
-        rest = &rest[2..];
+        rest = more;
     }
-    if !rest.is_empty() {
-        return Ok(None);
-    }
-    Ok(Some(bytes))
+    Ok(rest.is_empty().then_some(bytes))
 }
 
 /// The bytes of an argument, if it is hex or `-`.
 pub fn unhex(heap: Global, text: &[u8]) -> Result<Option<Vec<u8>>, AllocError>
     ensures { IfOk result (λ o. option_map vec_items o ≡ unhexed text.now) }
 {
-    if text.is_empty() {
-        return Ok(None);
+    match text {
+        [] => Ok(None),
+        [b'-'] => Ok(Some(Vec::new(heap))),
+        _ => read_digits(heap, text),
     }
-    if text == b"-".as_slice() {
-        return Ok(Some(Vec::new(heap)));
-    }
-    read_digits(heap, text)
 }
 
 /// What is printed can be read again.
-pub fn hex_reads_back() -> u8
+pub fn hex_reads_back()
     ensures { HexReadsBack }
-{
-    0
-}
+{}

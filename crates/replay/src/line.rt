@@ -1,10 +1,13 @@
 // One line of input, and what is printed for it.
-ghost use Rattle.std.specs.Prelude.{◌≡◌, ◌++◌, IfOk, Err, string_bytes, OnOk};
-ghost use Rattle.replay.specs.Lines.{passed_over, asked, address, open_book, write_packed, unreadable_for, unreadable_line, given, write_given, shown_given, shown, Shows};
-ghost use Rattle.replay.specs.Turns.{opened};
+ghost use Rattle.std.specs.Prelude.{◌≡◌, IfOk, OnErr, None, string_bytes};
+ghost use Rattle.packed_book.specs.Ends.{whole_book};
+ghost use Rattle.replay.specs.Lines.{passed_over, asked, read_line, with_ok, opened_by, given, write_given, shown, UnlessMemory};
+ghost use Rattle.replay.specs.Turns.{opened, gives, Shows};
 
-use crate::answer::{Books, open, push_address, write_packed};
+use crate::answer::{address_line, written_line};
 use crate::turn::{LineFault, Turn, read_turn};
+use email_policy::Report;
+use packed_book::check_book;
 use std::alloc::{AllocError, Global};
 
 /// What became of a line.
@@ -12,132 +15,94 @@ use std::alloc::{AllocError, Global};
 pub enum Outcome {
     Done,
     Unreadable,
-    NoMemoryLeft,
+}
+
+/// What is printed for a line, and what became of it.
+#[derive(Drop)]
+pub struct Printed {
+    pub outcome: Outcome,
+    pub text: String,
 }
 
 fn is_passed_over(line: &[u8]) -> bool
     ensures { result ≡ passed_over line.now }
 {
-    match line {
-        [] => true,
-        [first, ..] => *first == b'#',
-    }
+    matches!(line, [] | [b'#', ..])
 }
 
-fn unreadable(heap: Global, number: u64, why: &str) -> Result<String, AllocError>
-    ensures { IfOk result (λ s. string_bytes s ≡ unreadable_for number why.now) }
-{
-    format!(in heap; "unreadable {number}: {why}\n")
-}
-
-fn push_unreadable(
+/// Turns that are run in order, with the packed book that is open, by its bytes.
+#[derive(Drop)]
+pub struct Session {
     heap: Global,
-    out: &mut Vec<u8>,
-    number: u64,
-    fault: LineFault,
-) -> Result<(), AllocError>
-    ensures { OnOk result (out.new.items ≡ out.old.items ++ unreadable_line number fault) }
-{
-    let line = unreadable(heap, number, fault.why())?;
-    out.extend_from_slice(line.as_bytes())?;
-    Ok(())
+    packed: Option<Vec<u8>>,
 }
 
-fn complain(
-    heap: Global,
-    books: &Books,
-    out: &mut Vec<u8>,
-    number: u64,
-    fault: LineFault,
-) -> Outcome
-    ensures { Shows result out.old.items out.new.items (opened books.now) (shown_given (opened books.now) number (Err fault)) }
-{
-    match push_unreadable(heap, out, number, fault) {
-        Ok(()) => Outcome::Unreadable,
-        Err(_) => Outcome::NoMemoryLeft,
+impl Session {
+    /// A session in which no packed book is open.
+    pub fn new(heap: Global) -> Session
+        ensures { opened result ≡ None }
+    {
+        Session { heap, packed: None }
     }
-}
 
-fn answer_address(
-    heap: Global,
-    books: &Books,
-    out: &mut Vec<u8>,
-    number: u64,
-    text: &[u8],
-) -> Outcome
-    ensures { Shows result out.old.items out.new.items (opened books.now) (shown_given (opened books.now) number (given (opened books.now) (address text.now))) }
-{
-    match push_address(heap, out, text) {
-        Ok(()) => Outcome::Done,
-        Err(_) => Outcome::NoMemoryLeft,
-    }
-}
-
-fn answer_open(
-    heap: Global,
-    books: &mut Books,
-    out: &mut Vec<u8>,
-    number: u64,
-    book: Vec<u8>,
-) -> Outcome
-    ensures { Shows result out.old.items out.new.items (opened books.new) (shown_given (opened books.old) number (given (opened books.old) (open_book book.items))) }
-{
-    match open(heap, books, out, book) {
-        Ok(()) => Outcome::Done,
-        Err(_) => Outcome::NoMemoryLeft,
-    }
-}
-
-fn answer_write(
-    heap: Global,
-    books: &Books,
-    out: &mut Vec<u8>,
-    number: u64,
-    tray: &mut [u8],
-) -> Outcome
-    ensures { Shows result out.old.items out.new.items (opened books.now) (shown_given (opened books.now) number (given (opened books.now) (write_packed tray.old))) }
-{
-    let Some(book) = &books.packed else {
-        return complain(heap, books, out, number, LineFault::NoPackedBook);
-    };
-    let written = match write_packed(heap, out, book.as_slice(), tray) {
-        Ok(written) => written,
-        Err(_) => return Outcome::NoMemoryLeft,
-    };
-    if !written {
-        return complain(heap, books, out, number, LineFault::NoPackedBook);
-    }
-    Outcome::Done
-}
-
-fn answer(heap: Global, books: &mut Books, out: &mut Vec<u8>, number: u64, turn: Turn) -> Outcome
-    ensures { Shows result out.old.items out.new.items (opened books.new) (shown_given (opened books.old) number (given (opened books.old) (asked turn))) }
-{
-    match turn {
-        Turn::Address { text } => answer_address(heap, books, out, number, text.as_slice()),
-        Turn::Open { book } => answer_open(heap, books, out, number, book),
-        Turn::WritePacked { mut tray } => {
-            answer_write(heap, books, out, number, tray.as_mut_slice())
+    fn open(&mut self, book: Vec<u8>) -> Result<String, AllocError>
+        ensures ok { IfOk result (λ s. gives (string_bytes s) self.new ≡ opened_by (opened self.old) book.items (whole_book book.items)) }
+        ensures err { OnErr result (opened self.new ≡ opened self.old) }
+    {
+        match check_book(book.as_slice()) {
+            Ok(()) => {
+                let line = String::from_str(self.heap, "accepted\n")?;
+                self.packed = Some(book);
+                Ok(line)
+            }
+            Err(fault) => format!(in self.heap; "{}\n", Report::from(fault)),
         }
     }
-}
 
-/// Does what the line asks for, and adds what is to be printed.
-pub fn replay(
-    heap: Global,
-    books: &mut Books,
-    out: &mut Vec<u8>,
-    number: u64,
-    line: &[u8],
-) -> Outcome
-    ensures { Shows result out.old.items out.new.items (opened books.new) (shown (opened books.old) number line.now) }
-{
-    if is_passed_over(line) {
-        return Outcome::Done;
+    fn write_packed(&self, tray: &mut [u8]) -> Result<String, LineFault>
+        ensures { UnlessMemory (λ s. gives (string_bytes s) self.now) result (write_given (opened self.now) tray.old) }
+    {
+        let book = self.packed.as_ref().ok_or(LineFault::NoPackedBook)?;
+        written_line(self.heap, book.as_slice(), tray)
     }
-    match read_turn(heap, line) {
-        Ok(turn) => answer(heap, books, out, number, turn),
-        Err(LineFault::NoMemory) => Outcome::NoMemoryLeft,
-        Err(fault) => complain(heap, books, out, number, fault),
+
+    fn answer(&mut self, turn: Turn) -> Result<String, LineFault>
+        ensures value { UnlessMemory (λ s. gives (string_bytes s) self.new) result (given (opened self.old) (asked turn)) }
+        ensures err { OnErr result (opened self.new ≡ opened self.old) }
+    {
+        match turn {
+            Turn::Address { text } => Ok(address_line(self.heap, text.as_slice())?),
+            Turn::Open { book } => Ok(self.open(book)?),
+            Turn::WritePacked { mut tray } => self.write_packed(tray.as_mut_slice()),
+        }
+    }
+
+    fn run(&mut self, line: &[u8]) -> Result<String, LineFault>
+        ensures value { UnlessMemory (λ s. gives (string_bytes s) self.new) result (with_ok (read_line line.now) (given (opened self.old))) }
+        ensures err { OnErr result (opened self.new ≡ opened self.old) }
+    {
+        let turn = read_turn(self.heap, line)?;
+        self.answer(turn)
+    }
+
+    /// Does what the line asks for, and gives what is to be printed.
+    pub fn replay(&mut self, number: u64, line: &[u8]) -> Result<Printed, AllocError>
+        ensures { IfOk result (λ p. Shows p self.new (shown (opened self.old) number line.now)) }
+    {
+        if is_passed_over(line) {
+            return Ok(Printed {
+                outcome: Outcome::Done,
+                text: String::new(self.heap),
+            });
+        }
+        let (outcome, text) = match self.run(line) {
+            Ok(text) => (Outcome::Done, text),
+            Err(LineFault::NoMemory(error)) => return Err(error),
+            Err(fault) => (
+                Outcome::Unreadable,
+                format!(in self.heap; "unreadable {number}: {fault}\n")?,
+            ),
+        };
+        Ok(Printed { outcome, text })
     }
 }

@@ -1,5 +1,5 @@
-use crate::answer::Books;
-use crate::line::{Outcome, replay};
+use crate::line::{Outcome, Session};
+use std::alloc::AllocError;
 
 // Each line with what becomes of it and what is printed.
 const LINES: [(&[u8], Outcome, &[u8]); 17] = [
@@ -71,11 +71,12 @@ const LINES: [(&[u8], Outcome, &[u8]); 17] = [
 ];
 
 #[test]
-fn lines(rt: HostRuntime) {
-    let mut books = Books { packed: None };
+fn lines(rt: HostRuntime) -> Result<(), AllocError> {
+    let mut session = Session::new(rt.alloc());
     for (line, outcome, printed) in LINES {
-        let mut out = Vec::new(rt.alloc());
-        assert_eq!(rt; replay(rt.alloc(), &mut books, &mut out, 7, line), outcome);
-        assert_eq!(rt; out.as_slice(), printed);
+        let shown = session.replay(7, line)?;
+        assert_eq!(rt; shown.outcome, outcome);
+        assert_eq!(rt; shown.text.as_bytes(), printed);
     }
+    Ok(())
 }

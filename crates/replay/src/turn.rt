@@ -1,14 +1,14 @@
 // Turns, as lines ask for them.
-ghost use Rattle.std.specs.Prelude.{◌≡◌, ◌<◌, length, replicate, IfSome, IfOk, vec_items, nat_eq};
+ghost use Rattle.std.specs.Prelude.{◌≡◌, ◌<◌, ◌==◌, position, IfSome, IfOk, Some, vec_items};
 ghost use Rattle.std.specs.Option.{option_map};
 ghost use Rattle.std.specs.Str.{bytes_eq};
-ghost use Rattle.address.specs.Text.{first_place};
 ghost use Rattle.replay.specs.Lines.{parted_at, sole, both, map_ok, with_ok, bytes_or, sole_bytes, decimal_digit, number_of, byte_in, tray_of, address, open_book, write_asked, asked_by, read_line, asked, why_text, UnlessMemory};
 ghost use Rattle.replay.specs.Hex.{unhex as unhexed};
 ghost use Rattle.replay.specs.declared.turn.LineFault.TheVariants.{NoMemory};
 
 use crate::hex::{pair, unhex};
 use std::alloc::{AllocError, Global};
+use std::fmt;
 
 #[derive(Drop)]
 pub enum Turn {
@@ -30,14 +30,14 @@ pub enum LineFault {
     NotTray,
     NotSource,
     NoPackedBook,
-    NoMemory,
+    NoMemory(AllocError),
 }
 
-impl LineFault {
-    pub fn why(self) -> &'static str
-        ensures { result.now ≡ why_text self }
-    {
-        match self {
+impl fmt::Display for LineFault {
+    ghost output = { λ fault. Some (why_text fault) };
+
+    fn fmt<W: fmt::Write>(&self, f: &mut fmt::Formatter<W>) -> fmt::Result {
+        f.write_str(match self {
             LineFault::UnknownWord => "no such word",
             LineFault::MissingArgument => "an argument is missing",
             LineFault::ExtraArgument => "there is an argument too many",
@@ -45,48 +45,38 @@ impl LineFault {
             LineFault::NotTray => "the tray is not N:hh",
             LineFault::NotSource => "the source is not packed",
             LineFault::NoPackedBook => "no packed book is open",
-            LineFault::NoMemory => "there is no memory for it",
-        }
+            LineFault::NoMemory(_) => "there is no memory for it",
+        })
     }
 }
 
 impl From<AllocError> for LineFault {
-    ghost from_gives = { λ _ r. r ≡ NoMemory };
+    ghost from_gives = { λ e r. r ≡ NoMemory e };
 
-    fn from(_e: AllocError) -> LineFault {
-        LineFault::NoMemory
+    fn from(error: AllocError) -> LineFault {
+        LineFault::NoMemory(error)
     }
 }
 
 fn find(line: &[u8], c: u8) -> Option<usize>
-    ensures value { result ≡ first_place (λ b. nat_eq b c) line.now }
-    ensures bound { IfSome result (λ i. i < length line.now) }
+    ensures { result ≡ position (λ b. b == c) line.now }
 {
-    for (i, b) in line.iter().enumerate() {
-        if *b == c {
-            return Some(i);
-        }
-    }
-    None
+    line.iter().position(|b| *b == c)
 }
 
 // What stands before the first `c`, and what follows it.
 fn part(line: &[u8], c: u8) -> Option<(&[u8], &[u8])>
     ensures { option_map (λ s. (s.0.now, s.1.now)) result ≡ parted_at c line.now }
 {
-    match find(line, c) {
-        Some(i) => Some((&line[0..i], &line[i + 1..])),
-        None => None,
-    }
+    let at = find(line, c)?;
+    Some((&line[..at], &line[at + 1..]))
 }
 
 // The one argument that a word takes.
 fn sole_argument(rest: Option<&[u8]>) -> Result<&[u8], LineFault>
     ensures { map_ok (λ x. x.now) result ≡ sole (option_map (λ x. x.now) rest.entry) }
 {
-    let Some(argument) = rest else {
-        return Err(LineFault::MissingArgument);
-    };
+    let argument = rest.ok_or(LineFault::MissingArgument)?;
     if part(argument, b' ').is_some() {
         return Err(LineFault::ExtraArgument);
     }
@@ -96,10 +86,7 @@ fn sole_argument(rest: Option<&[u8]>) -> Result<&[u8], LineFault>
 fn bytes(heap: Global, argument: &[u8]) -> Result<Vec<u8>, LineFault>
     ensures { UnlessMemory vec_items result (bytes_or (unhexed argument.now)) }
 {
-    match unhex(heap, argument)? {
-        Some(bytes) => Ok(bytes),
-        None => Err(LineFault::NotHex),
-    }
+    unhex(heap, argument)?.ok_or(LineFault::NotHex)
 }
 
 // The bytes of a word's one argument.
@@ -110,22 +97,12 @@ fn sole_bytes(heap: Global, rest: Option<&[u8]>) -> Result<Vec<u8>, LineFault>
     bytes(heap, argument)
 }
 
-fn is_word(word: &[u8], name: &[u8]) -> bool
-    ensures { result ≡ bytes_eq word.now name.now }
-{
-    word == name
-}
-
 // Both arguments of a word that takes two.
 fn both_arguments(rest: Option<&[u8]>) -> Result<(&[u8], &[u8]), LineFault>
     ensures { map_ok (λ s. (s.0.now, s.1.now)) result ≡ both (option_map (λ x. x.now) rest.entry) }
 {
-    let Some(arguments) = rest else {
-        return Err(LineFault::MissingArgument);
-    };
-    let Some((first, second)) = part(arguments, b' ') else {
-        return Err(LineFault::MissingArgument);
-    };
+    let arguments = rest.ok_or(LineFault::MissingArgument)?;
+    let (first, second) = part(arguments, b' ').ok_or(LineFault::MissingArgument)?;
     if part(second, b' ').is_some() {
         return Err(LineFault::ExtraArgument);
     }
@@ -137,7 +114,7 @@ fn decimal_digit(c: u8) -> Option<usize>
     ensures bound { IfSome result (λ d. d < 10) }
 {
     match c {
-        b'0'..=b'9' => Some((c - b'0') as usize),
+        b'0'..=b'9' => Some(usize::from(c - b'0')),
         _ => None,
     }
 }
@@ -151,9 +128,7 @@ fn number(text: &[u8]) -> Option<usize>
     }
     let mut n = 0;
     for c in text {
-        let Some(d) = decimal_digit(*c) else {
-            return None;
-        };
+        let d = decimal_digit(*c)?;
         if n >= 100_000_000 {
             return None;
         }
@@ -166,86 +141,44 @@ fn number(text: &[u8]) -> Option<usize>
 fn hex_byte(text: &[u8]) -> Option<u8>
     ensures { result ≡ byte_in text.now }
 {
-    if text.len() != 2 {
-        return None;
+    match text {
+        [high, low] => pair(*high, *low),
+        _ => None,
     }
-    pair(text[0], text[1])
-}
-
-fn filled(heap: Global, n: usize, b: u8) -> Result<Vec<u8>, AllocError>
-    ensures { IfOk result (λ v. v.items ≡ replicate n b) }
-{
-    vec![in heap; b; n]
 }
 
 // So many bytes, each holding the same.
 fn tray(heap: Global, argument: &[u8]) -> Result<Vec<u8>, LineFault>
     ensures { UnlessMemory vec_items result (tray_of (parted_at 58 argument.now)) }
 {
-    let Some((count, byte)) = part(argument, b':') else {
-        return Err(LineFault::NotTray);
-    };
-    let Some(n) = number(count) else {
-        return Err(LineFault::NotTray);
-    };
-    let Some(b) = hex_byte(byte) else {
-        return Err(LineFault::NotTray);
-    };
-    let bytes = filled(heap, n, b)?;
-    Ok(bytes)
-}
-
-fn address_turn(heap: Global, rest: Option<&[u8]>) -> Result<Turn, LineFault>
-    ensures { UnlessMemory asked result (map_ok address (sole_bytes (option_map (λ x. x.now) rest.entry))) }
-{
-    match sole_bytes(heap, rest) {
-        Ok(text) => Ok(Turn::Address { text }),
-        Err(fault) => Err(fault),
-    }
-}
-
-fn open_turn(heap: Global, rest: Option<&[u8]>) -> Result<Turn, LineFault>
-    ensures { UnlessMemory asked result (map_ok open_book (sole_bytes (option_map (λ x. x.now) rest.entry))) }
-{
-    match sole_bytes(heap, rest) {
-        Ok(book) => Ok(Turn::Open { book }),
-        Err(fault) => Err(fault),
-    }
-}
-
-fn tray_turn(heap: Global, source: &[u8], argument: &[u8]) -> Result<Turn, LineFault>
-    ensures { UnlessMemory asked result (write_asked (source.now, argument.now)) }
-{
-    if !is_word(source, b"packed") {
-        return Err(LineFault::NotSource);
-    }
-    match tray(heap, argument) {
-        Ok(tray) => Ok(Turn::WritePacked { tray }),
-        Err(fault) => Err(fault),
-    }
+    let (count, byte) = part(argument, b':').ok_or(LineFault::NotTray)?;
+    let n = number(count).ok_or(LineFault::NotTray)?;
+    let b = hex_byte(byte).ok_or(LineFault::NotTray)?;
+    Ok(vec![in heap; b; n]?)
 }
 
 fn write_turn(heap: Global, rest: Option<&[u8]>) -> Result<Turn, LineFault>
     ensures { UnlessMemory asked result (with_ok (both (option_map (λ x. x.now) rest.entry)) write_asked) }
 {
     let (source, argument) = both_arguments(rest)?;
-    tray_turn(heap, source, argument)
+    if source != b"packed".as_slice() {
+        return Err(LineFault::NotSource);
+    }
+    let tray = tray(heap, argument)?;
+    Ok(Turn::WritePacked { tray })
 }
 
 // What a word with what follows its space asks for.
+#[tactic(auto, using(crate::proofs::Trays::word_address))]
 fn turn_of(heap: Global, word: &[u8], rest: Option<&[u8]>) -> Result<Turn, LineFault>
     ensures { UnlessMemory asked result (asked_by word.now (option_map (λ x. x.now) rest.entry)) }
 {
-    if is_word(word, b"address") {
-        return address_turn(heap, rest);
+    match word {
+        b"address" => sole_bytes(heap, rest).map(|text| Turn::Address { text }),
+        b"open" => sole_bytes(heap, rest).map(|book| Turn::Open { book }),
+        b"write" => write_turn(heap, rest),
+        _ => Err(LineFault::UnknownWord),
     }
-    if is_word(word, b"open") {
-        return open_turn(heap, rest);
-    }
-    if is_word(word, b"write") {
-        return write_turn(heap, rest);
-    }
-    Err(LineFault::UnknownWord)
 }
 
 /// The turn that a line asks for.
