@@ -1,2 +1,4 @@
 pub mod HexDigits
 pub mod Trays
+pub mod TextLines
+pub mod Told

@@ -1,5 +1,5 @@
 -- What the parts of a turn leave.
-use Rattle.std.specs.Prelude.{◌≡◌, ℕ, List, Ok, Err, vec_items, string_bytes, Result}
+use Rattle.std.specs.Prelude.{◌≡◌, ℕ, List, Ok, Err, vec_items, Result}
 use Rattle.std.specs.Option.{option_map}
 use Rattle.email_policy.specs.Lawful.{pack_book}
 use Rattle.packed_book.specs.Ends.{whole_book}
@@ -20,7 +20,7 @@ gives text s = record { printed = text; state = opened s }
 
 -- so it is shown
 abbrev pub Shows : Printed → Session → Shown → Type 0
-Shows p session s = (p.outcome ≡ s.outcome) × (string_bytes p.text ≡ s.added) × (opened session ≡ s.state)
+Shows p session s = (p.outcome ≡ s.outcome) × (vec_items p.text ≡ s.added) × (opened session ≡ s.state)
 
 abbrev pub WrittenOut : List ℕ → List ℕ → List ℕ → Result (Result ℕ TrayTooShort) OpenFault → Type 0
 WrittenOut bs tray tray' (Ok a) = (whole_book bs ≡ Ok tt) × (a ≡ write_answer (pack_book (read_book bs)) tray) × (tray' ≡ write_tray (pack_book (read_book bs)) tray)

@@ -1,11 +1,11 @@
 // One line of input, and what is printed for it.
-ghost use Rattle.std.specs.Prelude.{◌≡◌, IfOk, OnErr, None, string_bytes};
+ghost use Rattle.std.specs.Prelude.{◌≡◌, IfOk, OnErr, None, string_bytes, vec_items};
 ghost use Rattle.packed_book.specs.Ends.{whole_book};
-ghost use Rattle.replay.specs.Lines.{passed_over, asked, read_line, with_ok, opened_by, given, write_given, shown, UnlessMemory};
+ghost use Rattle.replay.specs.Lines.{passed_over, asked, read_line, with_ok, opened_by, given, write_given, resolve_given, called, shown, UnlessMemory};
 ghost use Rattle.replay.specs.Turns.{opened, gives, Shows};
 
-use crate::answer::{address_line, written_line};
-use crate::turn::{LineFault, Turn, read_turn};
+use crate::answer::{address_line, resolved_lines, written_line};
+use crate::turn::{Call, LineFault, Turn, read_turn};
 use email_policy::Report;
 use packed_book::check_book;
 use std::alloc::{AllocError, Global};
@@ -21,7 +21,7 @@ pub enum Outcome {
 #[derive(Drop)]
 pub struct Printed {
     pub outcome: Outcome,
-    pub text: String,
+    pub text: Vec<u8>,
 }
 
 fn is_passed_over(line: &[u8]) -> bool
@@ -66,19 +66,29 @@ impl Session {
         written_line(self.heap, book.as_slice(), tray)
     }
 
-    fn answer(&mut self, turn: Turn) -> Result<String, LineFault>
-        ensures value { UnlessMemory (λ s. gives (string_bytes s) self.new) result (given (opened self.old) (asked turn)) }
+    fn resolve_packed(&self, call: Call) -> Result<Vec<u8>, LineFault>
+        ensures { UnlessMemory (λ v. gives (vec_items v) self.now) result (resolve_given (opened self.now) (called call)) }
+    {
+        let book = self.packed.as_ref().ok_or(LineFault::NoPackedBook)?;
+        resolved_lines(self.heap, book.as_slice(), &call)
+    }
+
+    fn answer(&mut self, turn: Turn) -> Result<Vec<u8>, LineFault>
+        ensures value { UnlessMemory (λ v. gives (vec_items v) self.new) result (given (opened self.old) (asked turn)) }
         ensures err { OnErr result (opened self.new ≡ opened self.old) }
     {
         match turn {
-            Turn::Address { text } => Ok(address_line(self.heap, text.as_slice())?),
-            Turn::Open { book } => Ok(self.open(book)?),
-            Turn::WritePacked { mut tray } => self.write_packed(tray.as_mut_slice()),
+            Turn::Address { text } => Ok(address_line(self.heap, text.as_slice())?.into_bytes()),
+            Turn::Open { book } => Ok(self.open(book)?.into_bytes()),
+            Turn::WritePacked { mut tray } => {
+                Ok(self.write_packed(tray.as_mut_slice())?.into_bytes())
+            }
+            Turn::ResolvePacked { call } => self.resolve_packed(call),
         }
     }
 
-    fn run(&mut self, line: &[u8]) -> Result<String, LineFault>
-        ensures value { UnlessMemory (λ s. gives (string_bytes s) self.new) result (with_ok (read_line line.now) (given (opened self.old))) }
+    fn run(&mut self, line: &[u8]) -> Result<Vec<u8>, LineFault>
+        ensures value { UnlessMemory (λ v. gives (vec_items v) self.new) result (with_ok (read_line line.now) (given (opened self.old))) }
         ensures err { OnErr result (opened self.new ≡ opened self.old) }
     {
         let turn = read_turn(self.heap, line)?;
@@ -92,7 +102,7 @@ impl Session {
         if is_passed_over(line) {
             return Ok(Printed {
                 outcome: Outcome::Done,
-                text: String::new(self.heap),
+                text: Vec::new(self.heap),
             });
         }
         let (outcome, text) = match self.run(line) {
@@ -100,7 +110,7 @@ impl Session {
             Err(LineFault::NoMemory(error)) => return Err(error),
             Err(fault) => (
                 Outcome::Unreadable,
-                format!(in self.heap; "unreadable {number}: {fault}\n")?,
+                format!(in self.heap; "unreadable {number}: {fault}\n")?.into_bytes(),
             ),
         };
         Ok(Printed { outcome, text })

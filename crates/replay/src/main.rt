@@ -7,6 +7,7 @@ ghost use Rattle.replay.specs.Lines.{unended};
 mod answer;
 mod hex;
 mod line;
+mod people;
 #[cfg(test)]
 mod tests;
 mod turn;
@@ -38,7 +39,7 @@ fn run(rt: &HostRuntime) -> anyhow::Result<bool> {
             .replay(number, without_end(line.as_slice()))
             .map_err(|_| anyhow!("there is no memory left"))?;
         all = all && printed.outcome == Outcome::Done;
-        rt.stdout().write_all(printed.text.as_bytes())?;
+        rt.stdout().write_all(printed.text.as_slice())?;
     }
     Ok(all)
 }

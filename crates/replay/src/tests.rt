@@ -2,7 +2,7 @@ use crate::line::{Outcome, Session};
 use std::alloc::AllocError;
 
 // Each line with what becomes of it and what is printed.
-const LINES: [(&[u8], Outcome, &[u8]); 17] = [
+const LINES: [(&[u8], Outcome, &[u8]); 31] = [
     (b"", Outcome::Done, b""),
     (b"# address 61", Outcome::Done, b""),
     (
@@ -46,6 +46,11 @@ const LINES: [(&[u8], Outcome, &[u8]); 17] = [
         Outcome::Unreadable,
         b"unreadable 7: no packed book is open\n",
     ),
+    (
+        b"resolve packed 0000 0000 61 - 9249:abcd 2:ee",
+        Outcome::Unreadable,
+        b"unreadable 7: no packed book is open\n",
+    ),
     (b"open 07000000", Outcome::Done, b"fault 16 book book 4\n"),
     (
         b"write packed 8:ff",
@@ -68,6 +73,67 @@ const LINES: [(&[u8], Outcome, &[u8]); 17] = [
         Outcome::Unreadable,
         b"unreadable 7: the tray is not N:hh\n",
     ),
+    (
+        b"resolve packed 0000 0000 61 - 9249:abcd 2:ee",
+        Outcome::Done,
+        b"answer 00 tray 00ee scratch zero\n  mute\n",
+    ),
+    (
+        b"resolve_positive packed 0000 0000 61 - 9249:abcd 2:ee",
+        Outcome::Done,
+        b"answer 00 tray 00ee scratch zero\n  nothing\n",
+    ),
+    (
+        b"resolve packed 0000 0000 61 - 9248:abcd 2:ee",
+        Outcome::Done,
+        b"fault 5 router scratch 9249 tray eeee scratch kept\n",
+    ),
+    (
+        b"resolve packed 00 0000 61 - 2:0000 -",
+        Outcome::Unreadable,
+        b"unreadable 7: the tray is not N:hh\n",
+    ),
+    (
+        b"resolve packed 00 0000 61 - 2:0000 0:00",
+        Outcome::Done,
+        b"fault 1 roll to 0 tray - scratch zero\n",
+    ),
+    (
+        b"resolve live 0000 0000 61 - 9249:abcd 2:ee",
+        Outcome::Unreadable,
+        b"unreadable 7: the source is not packed\n",
+    ),
+    (
+        b"resolve packed 0000 0000 61 - 9249:abc 2:ee",
+        Outcome::Unreadable,
+        b"unreadable 7: the scratch is not N:hhhh\n",
+    ),
+    (
+        b"resolve packed 0000 0000 61 - 9249:abcd",
+        Outcome::Unreadable,
+        b"unreadable 7: an argument is missing\n",
+    ),
+    (
+        b"resolve packed 0000 0000 61 - 9249:abcd 2:ee 61",
+        Outcome::Unreadable,
+        b"unreadable 7: there is an argument too many\n",
+    ),
+    (
+        b"resolve packed 0000 0000 6 - 9249:abcd 2:ee",
+        Outcome::Unreadable,
+        b"unreadable 7: the bytes are not lower-case hex\n",
+    ),
+    (b"open 070102000000", Outcome::Done, b"accepted\n"),
+    (
+        b"resolve packed 0000 0000 61 - 9249:abcd 7:ee",
+        Outcome::Done,
+        b"answer 130001000161 tray 130001000161ee scratch zero\n  to a\n  rank all\n",
+    ),
+    (
+        b"resolve_positive packed 0000 0000 61 - 9249:abcd 7:ee",
+        Outcome::Done,
+        b"answer 030001000161 tray 030001000161ee scratch zero\n  to a\n",
+    ),
 ];
 
 #[test]
@@ -76,7 +142,7 @@ fn lines(rt: HostRuntime) -> Result<(), AllocError> {
     for (line, outcome, printed) in LINES {
         let shown = session.replay(7, line)?;
         assert_eq!(rt; shown.outcome, outcome);
-        assert_eq!(rt; shown.text.as_bytes(), printed);
+        assert_eq!(rt; shown.text.as_slice(), printed);
     }
     Ok(())
 }

@@ -2,13 +2,26 @@
 ghost use Rattle.std.specs.Prelude.{◌≡◌, ◌<◌, ◌==◌, position, IfSome, IfOk, Some, vec_items};
 ghost use Rattle.std.specs.Option.{option_map};
 ghost use Rattle.std.specs.Str.{bytes_eq};
-ghost use Rattle.replay.specs.Lines.{parted_at, sole, both, map_ok, with_ok, bytes_or, sole_bytes, decimal_digit, number_of, byte_in, tray_of, address, open_book, write_asked, asked_by, read_line, asked, why_text, UnlessMemory};
+ghost use Rattle.replay.specs.Lines.{parted_at, sole, both, map_ok, with_ok, bytes_or, sole_bytes, decimal_digit, number_of, byte_in, word_in, tray_of, scratch_of, leading, arguments_from, arguments, call_of, resolve_pass, resolve_asked, argued, called, address, open_book, write_asked, asked_by, read_line, asked, why_text, UnlessMemory};
 ghost use Rattle.replay.specs.Hex.{unhex as unhexed};
 ghost use Rattle.replay.specs.declared.turn.LineFault.TheVariants.{NoMemory};
 
 use crate::hex::{pair, unhex};
+use grants::Pass;
 use std::alloc::{AllocError, Global};
 use std::fmt;
+
+/// A resolve: for which review, and what is passed.
+#[derive(Drop)]
+pub struct Call {
+    pub pass: Pass,
+    pub to: Vec<u8>,
+    pub cc: Vec<u8>,
+    pub author: Vec<u8>,
+    pub bot: Vec<u8>,
+    pub scratch: Vec<u16>,
+    pub tray: Vec<u8>,
+}
 
 #[derive(Drop)]
 pub enum Turn {
@@ -18,6 +31,8 @@ pub enum Turn {
     Open { book: Vec<u8> },
     /// Writes the packed book out into a tray.
     WritePacked { tray: Vec<u8> },
+    /// Asks the packed book who is mailed.
+    ResolvePacked { call: Call },
 }
 
 /// Why a line gives no turn.
@@ -27,6 +42,7 @@ pub enum LineFault {
     MissingArgument,
     ExtraArgument,
     NotHex,
+    NotScratch,
     NotTray,
     NotSource,
     NoPackedBook,
@@ -42,6 +58,7 @@ impl fmt::Display for LineFault {
             LineFault::MissingArgument => "an argument is missing",
             LineFault::ExtraArgument => "there is an argument too many",
             LineFault::NotHex => "the bytes are not lower-case hex",
+            LineFault::NotScratch => "the scratch is not N:hhhh",
             LineFault::NotTray => "the tray is not N:hh",
             LineFault::NotSource => "the source is not packed",
             LineFault::NoPackedBook => "no packed book is open",
@@ -168,6 +185,114 @@ fn write_turn(heap: Global, rest: Option<&[u8]>) -> Result<Turn, LineFault>
     Ok(Turn::WritePacked { tray })
 }
 
+// A number in four digits.
+fn hex_word(text: &[u8]) -> Option<u16>
+    ensures { result ≡ word_in text.now }
+{
+    let (high, low) = text.split_at_checked(2)?;
+    let h = hex_byte(high)?;
+    let l = hex_byte(low)?;
+    Some(u16::from(h) * 256 + u16::from(l))
+}
+
+// So many slots, each holding the same.
+fn scratch(heap: Global, argument: &[u8]) -> Result<Vec<u16>, LineFault>
+    ensures { UnlessMemory vec_items result (scratch_of (parted_at 58 argument.now)) }
+{
+    let (count, slot) = part(argument, b':').ok_or(LineFault::NotScratch)?;
+    let n = number(count).ok_or(LineFault::NotScratch)?;
+    let h = hex_word(slot).ok_or(LineFault::NotScratch)?;
+    Ok(vec![in heap; h; n]?)
+}
+
+// The arguments of a resolve, as they are written.
+#[derive(Clone, Copy)]
+struct Arguments<'a> {
+    source: &'a [u8],
+    to: &'a [u8],
+    cc: &'a [u8],
+    author: &'a [u8],
+    bot: &'a [u8],
+    scratch: &'a [u8],
+    tray: &'a [u8],
+}
+
+// The first argument and what follows it, where another one does.
+fn leading(rest: &[u8]) -> Result<(&[u8], &[u8]), LineFault>
+    ensures { map_ok (λ s. (s.0.now, s.1.now)) result ≡ leading rest.now }
+{
+    part(rest, b' ').ok_or(LineFault::MissingArgument)
+}
+
+fn arguments_from(rest: &[u8]) -> Result<Arguments<'_>, LineFault>
+    ensures { map_ok argued result ≡ arguments_from rest.now }
+{
+    let (source, rest) = leading(rest)?;
+    let (to, rest) = leading(rest)?;
+    let (cc, rest) = leading(rest)?;
+    let (author, rest) = leading(rest)?;
+    let (bot, rest) = leading(rest)?;
+    let (scratch, rest) = leading(rest)?;
+    let tray = sole_argument(Some(rest))?;
+    Ok(Arguments {
+        source,
+        to,
+        cc,
+        author,
+        bot,
+        scratch,
+        tray,
+    })
+}
+
+fn all_arguments(rest: Option<&[u8]>) -> Result<Arguments<'_>, LineFault>
+    ensures { map_ok argued result ≡ arguments (option_map (λ x. x.now) rest.entry) }
+{
+    let rest = rest.ok_or(LineFault::MissingArgument)?;
+    arguments_from(rest)
+}
+
+fn read_call(heap: Global, pass: Pass, arguments: &Arguments<'_>) -> Result<Call, LineFault>
+    ensures { UnlessMemory called result (call_of pass (argued arguments.now)) }
+{
+    let to = bytes(heap, arguments.to)?;
+    let cc = bytes(heap, arguments.cc)?;
+    let author = bytes(heap, arguments.author)?;
+    let bot = bytes(heap, arguments.bot)?;
+    let scratch = scratch(heap, arguments.scratch)?;
+    let tray = tray(heap, arguments.tray)?;
+    Ok(Call {
+        pass,
+        to,
+        cc,
+        author,
+        bot,
+        scratch,
+        tray,
+    })
+}
+
+fn resolve_turn(heap: Global, pass: Pass, rest: Option<&[u8]>) -> Result<Turn, LineFault>
+    ensures { UnlessMemory asked result (with_ok (arguments (option_map (λ x. x.now) rest.entry)) (resolve_asked pass)) }
+{
+    let arguments = all_arguments(rest)?;
+    if arguments.source != b"packed".as_slice() {
+        return Err(LineFault::NotSource);
+    }
+    let call = read_call(heap, pass, &arguments)?;
+    Ok(Turn::ResolvePacked { call })
+}
+
+// The review that a resolve is for, by its word.
+fn resolve_pass(word: &[u8]) -> Option<Pass>
+    ensures { result ≡ resolve_pass word.now }
+{
+    if word == b"resolve".as_slice() {
+        return Some(Pass::First);
+    }
+    (word == b"resolve_positive".as_slice()).then_some(Pass::Positive)
+}
+
 // What a word with what follows its space asks for.
 #[tactic(auto, using(crate::proofs::Trays::word_address))]
 fn turn_of(heap: Global, word: &[u8], rest: Option<&[u8]>) -> Result<Turn, LineFault>
@@ -177,7 +302,10 @@ fn turn_of(heap: Global, word: &[u8], rest: Option<&[u8]>) -> Result<Turn, LineF
         b"address" => sole_bytes(heap, rest).map(|text| Turn::Address { text }),
         b"open" => sole_bytes(heap, rest).map(|book| Turn::Open { book }),
         b"write" => write_turn(heap, rest),
-        _ => Err(LineFault::UnknownWord),
+        _ => {
+            let pass = resolve_pass(word).ok_or(LineFault::UnknownWord)?;
+            resolve_turn(heap, pass, rest)
+        }
     }
 }
 
