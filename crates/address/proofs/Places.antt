@@ -1,6 +1,7 @@
 -- The place of the first element that passes, told from some place on.
-use Rattle.std.proofs.Common.{◌≡◌, ℕ, suc, ◌+◌, ◌<◌, Bool, true, false, List, [], ◌∷◌, length, get_or, Some, None, Option, refl, ap, ◌∙◌, arith}
+use Rattle.std.proofs.Common.{◌≡◌, ℕ, suc, ◌+◌, ◌<◌, ◌≤◌, Bool, true, false, List, [], ◌∷◌, length, get_or, drop, Some, None, Option, refl, ap, ◌∙◌, arith}
 use Rattle.std.specs.Option.{option_map}
+use Rattle.std.proofs.lemmas.List.{at_drop_more, at_drop_all}
 use Rattle.std.proofs.lemmas.Bool.{cond-true, cond-false, cond_both}
 use Rattle.address.specs.Text.{first_place}
 
@@ -22,6 +23,17 @@ module _ {X : Type 0} (p : X → Bool) where
 
   pub first_place_here : (i : ℕ) (x : X) (xs : List X) → p x ≡ true → from i (first_place p (x ∷ xs)) ≡ Some i
   first_place_here i x xs t = ap (from i) (cond-true (p x) (Some 0) (option_map suc (first_place p xs)) t) ∙ ap Some (omega arith)
+
+  -- told from place i on: by the element there, or past the end
+  module _ (xs : List X) (i : ℕ) where
+    pub first_place_more : (d : X) → i < length xs → p (get_or xs i d) ≡ false → from i (first_place p (drop i xs)) ≡ from (i + 1) (first_place p (drop (i + 1) xs))
+    first_place_more d h f = at_drop_more (λ l. from i (first_place p l)) xs i d h ∙ first_place_passed i _ _ f
+
+    pub first_place-found : (d : X) → i < length xs → p (get_or xs i d) ≡ true → from i (first_place p (drop i xs)) ≡ Some i
+    first_place-found d h t = at_drop_more (λ l. from i (first_place p l)) xs i d h ∙ first_place_here i _ _ t
+
+    pub first_place_none : length xs ≤ i → from i (first_place p (drop i xs)) ≡ None
+    first_place_none h = at_drop_all (λ l. from i (first_place p l)) xs i h
 
   -- what stands at the first place passes
   abbrev Passes : List X → X → Option ℕ → Type 0

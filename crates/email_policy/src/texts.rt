@@ -6,6 +6,7 @@ ghost use Rattle.std.specs.Option.{option_map};
 ghost use Rattle.email_policy.specs.Texts.{record_of, texts_of};
 ghost use Rattle.email_policy.specs.TextsLeft.{texts_left};
 
+use crate::record::MOST_TEXTS;
 use crate::source::PolicySource;
 
 /// Whose record is asked about: that of the defaults, or of the list with this number.
@@ -73,6 +74,10 @@ impl<'a, S: PolicySource> Iterator for SourceTexts<'a, S> {
     ghost remaining = { item_count (texts_left S.meaning) };
 
     fn next(&mut self) -> Option<&'a [u8]> {
+        // a lawful policy has no more, so the source is not asked for one
+        if self.next >= MOST_TEXTS {
+            return None;
+        }
         let text = source_text(self.source, self.whose, self.field, self.next)?;
         self.next += 1;
         Some(text)

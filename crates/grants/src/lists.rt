@@ -47,7 +47,7 @@ pub fn find_named<const N: usize>(
     ensures { result.items ≡ filled N [] (map (λ k. some (same_bare k) (incoming (letter mail.now))) (texts keys.now)) }
 {
     let mut marks = ArrayVec::new();
-    for key in keys.entries {
+    for key in keys.entries.iter().take(N) {
         push_within(&mut marks, is_addressed(mail, key.part()));
     }
     marks

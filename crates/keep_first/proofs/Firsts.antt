@@ -6,7 +6,7 @@ use Rattle.keep_first.specs.Keep.{some, firsts}
 use Rattle.keep_first.specs.Model.{Equivalence}
 use Rattle.keep_first.specs.Laws.{Apart, Part, KeepsFirsts}
 use Rattle.keep_first.specs.Laws.Part.{none, with_it, without}
-use Rattle.keep_first.proofs.Members.{In, has_in, in_has, in_kept, none_in, not_some, some-kept, some-kept_not, map_in}
+use Rattle.keep_first.proofs.Members.{In, has_in, in_has, in_kept, in_some, some_in, some-both, none_in, not_some, some-kept, some-kept_not, map_in}
 
 module _ {X : Type 0} where
   pub part_kept : (p : X → Bool) (ys xs : List X) → Part ys xs → Part (filter p ys) xs
@@ -80,6 +80,15 @@ module _ {X : Type 0} (same : X → X → Bool) where
       reached = λ x h. let (y, i, e) = firsts_reach x xs (has_in xs x h) in (y, in_has (firsts same xs) y i, e);
       ordered = firsts_part xs;
     }
+
+    -- the firsts reach all that the list reaches
+    pub some-firsts : (x : X) (xs : List X) → some (same x) (firsts same xs) ≡ some (same x) xs
+    some-firsts x xs = some-both (same x) (same x) (firsts same xs) xs
+        (λ t. let (y, i, e) = some_in (same x) (firsts same xs) t in in_some (same x) y xs (firsts_within y xs i) e)
+        (λ t.
+        let (y, i, e) = some_in (same x) xs t in
+        let (z, j, f) = firsts_reach y xs i in
+        in_some (same x) z (firsts same xs) j (law.transitive x y z e f))
 
     -- what each is replaced by is the same, so that they stay apart
     pub apart-map : (f : X → X) → ((x : X) → same x (f x) ≡ true) → (xs : List X) → Apart same xs → Apart same (map f xs)

@@ -1,7 +1,8 @@
 -- Tables that are filled from the front, as far as there is room.
-use Rattle.std.proofs.Common.{◌≡◌, ℕ, map, zero, suc, ◌+◌, ◌-◌, ◌≤◌, List, [], ◌∷◌, ◌++◌, length, take, Some, None, sym, refl, ap, ◌∙◌, arith}
+use Rattle.std.proofs.Common.{◌≡◌, ℕ, map, zero, suc, ◌+◌, ◌-◌, ◌<◌, ◌≤◌, List, [], ◌∷◌, ◌++◌, length, take, Some, None, sym, refl, ap, ◌∙◌, inl, inr, arith}
 use Rattle.std.specs.List.{slice_get}
-use Rattle.std.proofs.lemmas.List.{take_all, take_more, take-map, map-append, append_assoc, append-nil, length-append, length-map}
+use Rattle.std.proofs.lemmas.Bool.{cases_lt}
+use Rattle.std.proofs.lemmas.List.{nil_from_length, take_all, take_more, take-map, map-append, append_assoc, append-nil, length-append, length-take, length-map}
 use Rattle.std.proofs.lemmas.Option.{slice_get_within, get_or_from_slice_get}
 use Rattle.email_policy.proofs.Nth.{nth_none}
 use Rattle.mail.specs.Tables.{filled}
@@ -26,6 +27,22 @@ module _ {X : Type 0} (n : ℕ) (xs : List X) where
   -- where there is room for all
   pub filled_all : (ys : List X) → length xs + length ys ≤ n → filled n xs ys ≡ xs ++ ys
   filled_all ys h = ap (λ l. xs ++ l) (take_all (n - length xs) ys (omega arith))
+
+  -- where there is no room
+  pub filled_full : (ys : List X) → length xs ≡ n → xs ≡ filled n xs ys
+  filled_full ys h = let none : n - length xs ≡ 0 = omega arith in sym (ap (λ k. xs ++ take k ys) none ∙ append-nil xs)
+
+  -- where there is room for k more, and nothing to write unless k is 0
+  pub filled_end : (ys : List X) (k : ℕ) → length xs + k ≡ n → (0 < k → length ys ≡ 0) → xs ≡ filled n xs ys
+  filled_end ys k room stop = elim (cases_lt 0 k) [
+    | inl h ↦ filled_none ∙ ap (filled n xs) (sym (nil_from_length ys (stop h)))
+    | inr h ↦ filled_full ys (omega arith)
+  ]
+
+  -- how many there are after one more, where there is room for k more than that
+  pub filled_one : (xs' : List X) (x : X) (k : ℕ) → xs' ≡ filled n xs (x ∷ []) → length xs + (k + 1) ≡ n → length xs' + k ≡ n
+  filled_one xs' x k written room =
+      omega (arith, ap length written, length-append xs (take (n - length xs) (x ∷ [])), length-take (n - length xs) (x ∷ []))
 
   -- a turn that writes the first of the items that are left
   pub filled_turn : (xs' left left' all added : List X) → xs' ≡ filled n xs added → left ≡ added ++ left' → filled n xs left ≡ all → filled n xs' left' ≡ all

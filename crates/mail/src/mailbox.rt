@@ -64,7 +64,11 @@ impl<'a> Mailbox<'a> {
 impl Default for Mailbox<'_> {
     ghost is_default = { λ m. m.text.now ≡ [] };
 
+    // a table makes one for each of its places, so no address is looked for
     fn default() -> Self {
-        Mailbox::new(&[])
+        Mailbox {
+            text: &[],
+            part: &[],
+        }
     }
 }

@@ -17,5 +17,9 @@ pub fn push_within<T: Drop, const N: usize>(table: &mut ArrayVec<T, N>, item: T)
 pub fn push_text<'a, const N: usize>(table: &mut ArrayVec<Mailbox<'a>, N>, text: &'a [u8])
     ensures { map text_in table.new.items ≡ filled N (map text_in table.old.items) (text.now ∷ []) }
 {
+    // where there is no room, no address is looked for
+    if table.is_full() {
+        return;
+    }
     push_within(table, Mailbox::new(text));
 }

@@ -37,7 +37,8 @@ impl Policies<'_, '_, '_, '_> {
     ) -> bool
         ensures { result ≡ (qualifies_by (keys_in self.now) (letter mail.now) (granted_in self.now) individuals mailbox.now.text.now && mailable (letter mail.now) mailbox.now.text.now) }
     {
-        self.qualifies(mail, individuals, mailbox) && self.is_mailable(mail, mailbox)
+        // `qualifies` goes through every key, so it is asked last
+        self.is_mailable(mail, mailbox) && self.qualifies(mail, individuals, mailbox)
     }
 
     /// A mark for the author and for each address of To: whether it takes part.

@@ -1,12 +1,11 @@
 -- Hex, step by step, and read back.
-use Rattle.std.proofs.Common.{◌≡◌, ℕ, ◌+◌, ◌-◌, ◌/◌, ◌%◌, ◌^◌, ◌<◌, ◌≤◌, true, false, cond, ◌&&◌, eqb, List, [], ◌∷◌, ◌++◌, length, get_or, take, drop, Some, None, Option, sym, refl, ap, ◌∙◌, arith}
+use Rattle.std.proofs.Common.{◌≡◌, ℕ, ◌+◌, ◌-◌, ◌*◌, ◌/◌, ◌%◌, ◌<◌, ◌≤◌, max, true, false, cond, ◌&&◌, eqb, List, [], ◌∷◌, ◌++◌, length, get_or, take, drop, Some, None, Option, sym, refl, ap, ◌∙◌, arith}
 use Rattle.std.specs.List.{flat_map, AllByRecursion}
 use Rattle.std.specs.Str.{bytes_eq}
-use Rattle.std.specs.Fmt.{padded_integral, format_spec, radix_digits}
-use Rattle.std.proofs.lemmas.Fmt.{hex_byte}
 use Rattle.std.proofs.lemmas.List.{append_assoc, flat_map_more, take_more, take_rest}
+use Rattle.std.proofs.lemmas.Bool.{false≢true}
 use Rattle.std.proofs.lemmas.Bool.Decides.{nat_tests}
-use Rattle.replay.specs.Hex.{digit, digit_value, digits, byte_of, before, bytes_of, HexReadsBack}
+use Rattle.replay.specs.Hex.{digit, digit_value, digits, hex, byte_of, before, bytes_of, HexReadsBack}
 
 -- bytes that were read, and then those to come
 abbrev pub after : List ℕ → Option (List ℕ) → Option (List ℕ)
@@ -18,12 +17,25 @@ pub after_more : (bs : List ℕ) (b : ℕ) (o : Option (List ℕ)) → after bs 
 after_more bs b None = refl
 after_more bs b (Some cs) = ap Some (sym (append_assoc bs (b ∷ []) cs))
 
--- one byte written
-pub byte_more : (bytes : List ℕ) (i : ℕ) → i < length bytes → get_or bytes i 0 < 256 → flat_map digits (take i bytes) ++ padded_integral (format_spec 32 0 4 2 (2 ^ 64 - 1)) false [] (radix_digits 16 false (get_or bytes i 0)) ≡ flat_map digits (take (i + 1) bytes)
-byte_more bytes i h b =
-    ap (λ d. flat_map digits (take i bytes) ++ d) (hex_byte false (get_or bytes i 0) b)
-    ∙ flat_map_more digits [] (take i bytes) (get_or bytes i 0)
-    ∙ ap (flat_map digits) (sym (take_more bytes i 0 h))
+-- one byte written: its two digits are pushed one after the other
+pub digits_more : (s o₀ o₁ o₂ bytes : List ℕ) (i x y : ℕ) → i < length bytes → o₀ ≡ s ++ flat_map digits (take i bytes) → o₁ ≡ o₀ ++ x ∷ [] → o₂ ≡ o₁ ++ y ∷ [] → x ≡ digit (get_or bytes i 0 / 16) → y ≡ digit (get_or bytes i 0 % 16) → o₂ ≡ s ++ flat_map digits (take (i + 1) bytes)
+digits_more s o₀ o₁ o₂ bytes i x y h e₀ e₁ e₂ p q =
+    e₂ ∙ ap (λ o. o ++ y ∷ []) e₁ ∙ append_assoc o₀ (x ∷ []) (y ∷ [])
+    ∙ (λ k. e₀ k ++ (p k ∷ q k ∷ []))
+    ∙ flat_map_more digits s (take i bytes) (get_or bytes i 0)
+    ∙ ap (λ l. s ++ flat_map digits l) (sym (take_more bytes i 0 h))
+
+length-digits : (bs : List ℕ) → length (flat_map digits bs) ≡ 2 * length bs
+length-digits [] = refl
+length-digits (b ∷ bs) = omega (arith, length-digits bs)
+
+pub length-hex : (bs : List ℕ) → length (hex bs) ≡ max (2 * length bs) 1
+length-hex [] = refl
+length-hex (b ∷ bs) = omega (arith, length-digits (b ∷ bs))
+
+pub hex_some : (bs : List ℕ) → eqb (length bs) 0 ≡ false → hex bs ≡ flat_map digits bs
+hex_some [] e = absurd (false≢true (sym e))
+hex_some (b ∷ bs) e = refl
 
 digit_back : (n : ℕ) → n < 16 → digit_value (digit n) ≡ Some n
 digit_back n h = grind (arith, nat_tests)

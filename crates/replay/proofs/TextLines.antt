@@ -17,7 +17,7 @@ use Rattle.grants.specs.declared.pass.Pass.TheVariants.{First}
 use Rattle.email_router.specs.Opened.{opened, opened_map, opened_rank}
 use Rattle.replay.specs.People.{text_line, roll_lines, recipient_lines, rank_line, opened_recipients, answer_lines}
 
-packed_more : (t : Text) (ts : List Text) → length (pack_texts (t ∷ ts)) ≡ 2 + length t + length (pack_texts ts)
+pub packed_more : (t : Text) (ts : List Text) → length (pack_texts (t ∷ ts)) ≡ 2 + length t + length (pack_texts ts)
 unfolding pack_texts
 packed_more t ts = omega (arith, length-append (pack_text t) (pack_texts ts))
 

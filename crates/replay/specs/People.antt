@@ -1,5 +1,5 @@
 -- Who is mailed, in lines for people.
-use Rattle.std.specs.Prelude.{List, ℕ, ◌++◌, codes, Option, Some, None}
+use Rattle.std.specs.Prelude.{ℕ, ◌-◌, ◌^◌, ◌≤◌, min, List, ◌++◌, length, codes, Option, Some, None}
 use Rattle.std.specs.List.{flat_map}
 use Rattle.address.specs.Text.{Text}
 use Rattle.email_policy.specs.Policy.{Policy}
@@ -8,6 +8,7 @@ use Rattle.email_policy.specs.declared.policy.PositiveReviewPolicy.TheVariants.{
 use Rattle.audience.specs.Mail.{Mail}
 use Rattle.audience.specs.Known.{known_domain}
 use Rattle.audience.specs.Answers.{Recipients, Answer, mute, send, recipients, first_answer, positive_answer}
+use Rattle.email_router.specs.Envelope.{pack_answer}
 use Rattle.email_router.specs.Opened.{opened_to, opened_cc}
 use Rattle.grants.specs.declared.pass.Pass.{Pass}
 use Rattle.grants.specs.declared.pass.Pass.TheVariants.{First, Positive}
@@ -44,6 +45,10 @@ opened_recipients bs = record { to = opened_to bs; cc = opened_cc bs }
 abbrev pub answer_lines : Pass → Answer → List ℕ
 answer_lines First a = first_lines a
 answer_lines Positive a = positive_lines (recipients a)
+
+-- the lines of an answer of so many bytes fit so much room, as far as a room can be counted
+abbrev pub HasRoom : ℕ → ℕ → Type 0
+HasRoom size room = (pass : Pass) (a : Answer) → length (pack_answer a) ≤ size → min (length (answer_lines pass a)) (2 ^ 64 - 1) ≤ room
 
 -- who is mailed a review of this mail
 abbrev pub people : Pass → Policy → Mail → List ℕ

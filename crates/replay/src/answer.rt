@@ -1,9 +1,11 @@
 // What is printed for a turn.
-ghost use Rattle.std.specs.Prelude.{◌≡◌, ◌==◌, ◌++◌, IfOk, Some, Ok, Err, MatchResult, string_bytes, vec_items};
+ghost use Rattle.std.specs.Prelude.{◌≡◌, ◌-◌, ◌^◌, ◌==◌, min, ◌++◌, length, IfOk, Some, Ok, Err, MatchResult, string_bytes, vec_items};
 ghost use Rattle.std.specs.List.{list_all};
 ghost use Rattle.std.specs.Option.{option_map};
+ghost use Rattle.address.specs.Text.{small};
+ghost use Rattle.address.specs.Address.{domain as domain_of};
 ghost use Rattle.packed_book.specs.Ends.{whole_book};
-ghost use Rattle.replay.specs.Lines.{address_line, domain_word, said_of, written_out, with_tray, slots_word, resolve_line, if_answered, called, resolved_by, UnlessMemory};
+ghost use Rattle.replay.specs.Lines.{address_line, line_of, domain_word, said_of, written_out, with_tray, slots_word, resolve_line, if_answered, called, resolved_by, UnlessMemory};
 ghost use Rattle.replay.specs.Turns.{WrittenOut};
 ghost use Rattle.replay.specs.People.{answer_lines};
 ghost use Rattle.packed_book.specs.Reading.{read_book};
@@ -11,8 +13,8 @@ ghost use Rattle.packed_book.specs.Reports.{tray_report};
 ghost use Rattle.email_router.specs.Given.{given, given_by};
 ghost use Rattle.email_router.specs.Opened.{opened};
 
-use crate::hex::Hex;
-use crate::people::push_people;
+use crate::hex::{Hex, hex_len};
+use crate::people::{people_room, push_people};
 use crate::turn::{Call, LineFault};
 use address::{address_part, domain};
 use email_policy::{PolicySource, Report};
@@ -37,6 +39,16 @@ impl fmt::Display for Domain<'_> {
     }
 }
 
+// How many bytes the line of an address has.
+fn address_len(part: &[u8], domain: Option<&[u8]>) -> usize
+    ensures { option_map (λ x. x.now) domain.entry ≡ domain_of (small part.now) → result ≡ min (length (line_of part.now)) (2 ^ 64 - 1) }
+{
+    hex_len(part)
+        .saturating_mul(2)
+        .saturating_add(domain.map_or("none".len(), hex_len))
+        .saturating_add("address   \n".len())
+}
+
 /// The line for the address in a text.
 pub fn address_line(heap: Global, text: &[u8]) -> Result<String, AllocError>
     ensures { IfOk result (λ s. string_bytes s ≡ address_line text.now) }
@@ -44,21 +56,40 @@ pub fn address_line(heap: Global, text: &[u8]) -> Result<String, AllocError>
     let part = address_part(text);
     let mut bare = Vec::from_slice(heap, part)?;
     bare.make_ascii_lowercase();
-    format!(in heap;
+    let domain = domain(&bare);
+    let mut line = String::with_capacity(heap, address_len(part, domain))?;
+    write!(
+        line,
         "address {} {} {}\n",
         Hex(part),
         Hex(&bare),
-        Domain(domain(&bare))
-    )
+        Domain(domain)
+    )?;
+    Ok(line)
 }
 
-// What a call that writes into a tray answered; the tray is as it is after the call.
-fn said(heap: Global, tray: &[u8], answer: Result<usize, Report>) -> Result<String, AllocError>
+// What a call that writes into a tray answered, and room for what follows; the tray is as it is after the call.
+fn said(
+    heap: Global,
+    tray: &[u8],
+    answer: Result<usize, Report>,
+    room: usize,
+) -> Result<String, AllocError>
     ensures { IfOk result (λ s. string_bytes s ≡ said_of (λ r. r) tray.now answer) }
 {
     match answer {
-        Ok(n) => format!(in heap; "answer {}", Hex(tray.get(..n).unwrap_or(tray))),
-        Err(report) => format!(in heap; "{report}"),
+        Ok(n) => {
+            let written = tray.get(..n).unwrap_or(tray);
+            let len = hex_len(written).saturating_add("answer ".len());
+            let mut said = String::with_capacity(heap, len.saturating_add(room))?;
+            write!(said, "answer {}", Hex(written))?;
+            Ok(said)
+        }
+        Err(report) => {
+            let mut said = format!(in heap; "{report}")?;
+            said.reserve(room)?;
+            Ok(said)
+        }
     }
 }
 
@@ -78,8 +109,11 @@ fn write_line(
 ) -> Result<String, AllocError>
     ensures { IfOk result (λ s. string_bytes s ≡ with_tray (said_of tray_report tray.now answer) tray.now) }
 {
-    let said = said(heap, tray, answer.map_err(|short| Report::from(short)))?;
-    format!(in heap; "{said} tray {}\n", Hex(tray))
+    let room = hex_len(tray).saturating_add(" tray \n".len());
+    let answer = answer.map_err(|short| Report::from(short));
+    let mut line = said(heap, tray, answer, room)?;
+    write!(line, " tray {}\n", Hex(tray))?;
+    Ok(line)
 }
 
 /// Writes the packed book out into the tray, and gives the line for it.
@@ -118,12 +152,14 @@ fn resolve_line(
 ) -> Result<String, AllocError>
     ensures { IfOk result (λ s. string_bytes s ≡ resolve_line before.now (given answer scratch.now tray.now)) }
 {
-    let said = said(heap, tray, answer.map_err(|fault| Report::from(fault)))?;
-    format!(in heap;
-        "{said} tray {} scratch {}\n",
-        Hex(tray),
-        slots_word(before, scratch)
-    )
+    let slots = slots_word(before, scratch);
+    let room = hex_len(tray)
+        .saturating_add(" tray  scratch \n".len() + slots.len())
+        .saturating_add(answer.map_or(0, people_room));
+    let answer = answer.map_err(|fault| Report::from(fault));
+    let mut line = said(heap, tray, answer, room)?;
+    write!(line, " tray {} scratch {slots}\n", Hex(tray))?;
+    Ok(line)
 }
 
 // Opens the book again and asks it.

@@ -1,10 +1,34 @@
 // Bytes as lower-case hex, with `-` for no bytes.
-ghost use Rattle.std.specs.Prelude.{◌≡◌, ◌<◌, IfSome, IfOk, Some, vec_items};
+ghost use Rattle.std.specs.Prelude.{◌≡◌, ◌-◌, ◌^◌, ◌<◌, ◌≤◌, min, length, IfSome, IfOk, IsAscii, Some, vec_items};
 ghost use Rattle.std.specs.Option.{option_map};
-ghost use Rattle.replay.specs.Hex.{digit_value, byte_of, bytes_of, unhex as unhexed, hex, HexReadsBack};
+ghost use Rattle.std.specs.List.{flat_map};
+ghost use Rattle.replay.specs.Hex.{digit as digit_of, digits, digit_value, byte_of, bytes_of, unhex as unhexed, hex, HexReadsBack};
 
+use arrayvec::ArrayVec;
 use std::alloc::{AllocError, Global};
-use std::fmt;
+use std::{fmt, str};
+
+fn digit(n: u8) -> u8
+    requires { n < 16 }
+    ensures value { result ≡ digit_of n }
+    ensures ascii { result < 128 }
+{
+    if n < 10 { b'0' + n } else { b'a' - 10 + n }
+}
+
+// The digits of a few bytes, which fit the stack.
+fn digits_of(bytes: &[u8]) -> ArrayVec<u8, 64>
+    requires { length bytes.now ≤ 32 }
+    ensures value { result.items ≡ flat_map digits bytes.now }
+    ensures ascii { IsAscii result.items }
+{
+    let mut digits = ArrayVec::new();
+    for b in bytes {
+        digits.push(digit(*b / 16));
+        digits.push(digit(*b % 16));
+    }
+    digits
+}
 
 /// Bytes that print in hex.
 #[derive(Clone, Copy)]
@@ -17,11 +41,23 @@ impl fmt::Display for Hex<'_> {
         if self.0.is_empty() {
             return write!(f, "-");
         }
-        for &b in self.0 {
-            write!(f, "{b:02x}")?;
+        // many digits to a write: one write for each byte takes seven times as long
+        for bytes in self.0.chunks(32) {
+            let digits = digits_of(bytes);
+            let Ok(text) = str::from_utf8(digits.as_slice()) else {
+                unreachable!();
+            };
+            f.write_str(text)?;
         }
         Ok(())
     }
+}
+
+/// How many bytes are printed in hex, for the room of a line.
+pub fn hex_len(bytes: &[u8]) -> usize
+    ensures { result ≡ min (length (hex bytes.now)) (2 ^ 64 - 1) }
+{
+    bytes.len().saturating_mul(2).max(1)
 }
 
 fn value(c: u8) -> Option<u8>

@@ -7,7 +7,7 @@ ghost use Rattle.email_policy.specs.Numbers.{has_bit, rank_of};
 ghost use Rattle.email_policy.specs.Reading.{part_at};
 ghost use Rattle.email_router.specs.Opened.{opened, opened_map};
 ghost use Rattle.audience.specs.Answers.{mute};
-ghost use Rattle.replay.specs.People.{text_line, roll_lines, recipient_lines, rank_line, opened_recipients, answer_lines};
+ghost use Rattle.replay.specs.People.{text_line, roll_lines, recipient_lines, rank_line, opened_recipients, answer_lines, HasRoom};
 
 use grants::Pass;
 use roll::{read_text, read_word};
@@ -108,6 +108,13 @@ fn push_recipients(lines: &mut Vec<u8>, map: u8, tray: &[u8]) -> Result<(), Allo
     let cc = push_roll(lines, b"  to ", has_bit(map, 2), tray, 1)?;
     push_roll(lines, b"  cc ", has_bit(map, 4), tray, cc)?;
     Ok(())
+}
+
+/// Room for the lines of an answer of so many bytes: a text's line has four bytes more than the text and its length have there, and these are two at least.
+pub fn people_room(size: usize) -> usize
+    ensures { HasRoom size result }
+{
+    size.saturating_mul(3).saturating_add(14)
 }
 
 /// The lines of the answer at the front of a tray.

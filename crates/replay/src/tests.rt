@@ -146,3 +146,22 @@ fn lines(rt: HostRuntime) -> Result<(), AllocError> {
     }
     Ok(())
 }
+
+// How much memory a line takes no clause says: a long one has just the room that it needs.
+#[test]
+fn room(rt: HostRuntime) -> Result<(), AllocError> {
+    let lines: [&[u8]; 4] = [
+        b"address -",
+        b"address 4140582e74",
+        b"write packed 8:ff",
+        b"write packed 100000:ff",
+    ];
+    let mut session = Session::new(rt.alloc());
+    let opened = session.replay(6, b"open 070000000000")?;
+    assert_eq!(rt; opened.outcome, Outcome::Done);
+    for line in lines {
+        let shown = session.replay(7, line)?;
+        assert_eq!(rt; shown.text.capacity(), shown.text.len());
+    }
+    Ok(())
+}

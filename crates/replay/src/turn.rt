@@ -49,11 +49,11 @@ pub enum LineFault {
     NoMemory(AllocError),
 }
 
-impl fmt::Display for LineFault {
-    ghost output = { λ fault. Some (why_text fault) };
-
-    fn fmt<W: fmt::Write>(&self, f: &mut fmt::Formatter<W>) -> fmt::Result {
-        f.write_str(match self {
+impl LineFault {
+    pub fn why(self) -> &'static str
+        ensures { result.now ≡ why_text self }
+    {
+        match self {
             LineFault::UnknownWord => "no such word",
             LineFault::MissingArgument => "an argument is missing",
             LineFault::ExtraArgument => "there is an argument too many",
@@ -63,7 +63,15 @@ impl fmt::Display for LineFault {
             LineFault::NotSource => "the source is not packed",
             LineFault::NoPackedBook => "no packed book is open",
             LineFault::NoMemory(_) => "there is no memory for it",
-        })
+        }
+    }
+}
+
+impl fmt::Display for LineFault {
+    ghost output = { λ fault. Some (why_text fault) };
+
+    fn fmt<W: fmt::Write>(&self, f: &mut fmt::Formatter<W>) -> fmt::Result {
+        f.write_str(self.why())
     }
 }
 

@@ -1,9 +1,11 @@
 -- Laws of writing over a list.
-use Rattle.std.proofs.Common.{◌≡◌, ℕ, suc, ◌+◌, ◌≤◌, List, [], ◌∷◌, ◌++◌, length, take, drop, set, sym, refl, ap, ◌∙◌, arith}
+use Rattle.std.proofs.Common.{◌≡◌, ℕ, suc, ◌+◌, ◌≤◌, Bool, true, false, cond, ◌&&◌, List, [], ◌∷◌, ◌++◌, length, take, drop, set, Some, None, Option, sym, refl, ap, ◌∙◌, arith}
 use borrow.Rule.Slice.PartMut.{put_mid}
 use Rattle.std.proofs.lemmas.List.{length-take-le, drop_at, length-append, append_assoc, length-set, take-append-drop, drop-drop, drop-set-lt, take_more_set}
+use Rattle.std.proofs.lemmas.Bool.{cond_both, cond-true, and_parts, leb-true}
+use Rattle.roll.specs.Ends.{there}
 use Rattle.roll.specs.Laws.{Stands, WritesRows}
-use Rattle.roll.specs.Written.{written}
+use Rattle.roll.specs.Written.{written, put, put_end}
 
 pub written_one : (d : List ℕ) (i x : ℕ) → set d i x ≡ written d i (x ∷ [])
 unfolding written
@@ -76,3 +78,30 @@ wrote_more {p} {start} {tray} {at} {end} w p' q tray' end' e t n =
       ends = omega arith;
       holds = rw (t, w.holds) (written-append p q start at end w.ends);
     }
+
+-- what a call that writes a row, or leaves the tray as it was, says by its answer
+module _ (may : Bool) (d : List ℕ) (i : ℕ) (row : List ℕ) where
+  pub record Put (e : ℕ) : Type 0 where
+    pub might : may ≡ true
+    pub ends : e ≡ i + length row
+    pub within : e ≤ length d
+    pub holds : put may d i row ≡ written d i row
+
+  pub put_some : (e : ℕ) → Some e ≡ put_end may d i row → Put e
+  put_some e =
+      let P : Option ℕ → Type 0 = λ (o : Option ℕ). Some e ≡ o → Put e in
+      cond_both (may && there d i (length row)) (Some (i + length row)) None P
+      (λ t k.
+      let q = and_parts may (there d i (length row)) t in
+      let j : e ≡ i + length row = cc in
+      record { might = q.0; ends = j; within = omega (arith, leb-true (i + length row) (length d) q.1); holds = cond-true _ _ _ t })
+      (λ t k. let z : ◌≡◌ {A = ℕ} 0 1 = cc in absurd (omega arith))
+
+  pub put_none : None ≡ put_end may d i row → put may d i row ≡ d
+  put_none e =
+      let P : Bool → Type 0 = λ (b : Bool). None ≡ cond b (Some (i + length row)) None → cond b (written d i row) d ≡ d in
+      (elim (may && there d i (length row)) as P [
+        | true ↦ λ k. let z : ◌≡◌ {A = ℕ} 0 1 = cc in absurd (omega arith)
+        | false ↦ λ k. refl
+      ])
+      e

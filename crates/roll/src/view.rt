@@ -18,13 +18,12 @@ pub struct Roll<'a> {
 }
 
 impl<'a> Model for Roll<'a> {
-    ghost use Rattle.std.specs.Prelude.{List};
-    ghost use Rattle.address.specs.Text.{Text};
-    ghost use Rattle.roll.specs.Views.{viewed, Indexes};
+    ghost use Rattle.std.specs.Prelude.{List, ℕ};
+    ghost use Rattle.roll.specs.Views.{Indexes};
 
-    ghost Value = { List Text };
+    ghost Value = { List ℕ };
 
-    ghost view = { λ r. viewed r.bytes.now };
+    ghost view = { λ r. r.bytes.now };
 
     ghost invariant = { λ r. Indexes r.bytes.now r.starts.items };
 }
@@ -32,7 +31,7 @@ impl<'a> Model for Roll<'a> {
 impl<'a> Roll<'a> {
     /// The view of the first 512 texts, which of an incoming roll are all: reads them once, and keeps where each begins.
     pub fn new(bytes: &'a [u8]) -> Roll<'a>
-        ensures texts { result ≡ viewed bytes.now }
+        ensures bytes { result ≡ bytes.now }
         ensures all { Views bytes.now }
     {
         let count = read_word(bytes, 0).unwrap_or(0).min(512);
@@ -51,7 +50,7 @@ impl<'a> Roll<'a> {
     }
 
     pub fn len(&self) -> usize
-        ensures value { result ≡ length self.now }
+        ensures value { result ≡ length (viewed self.now) }
         ensures few { result ≤ 512 }
     {
         self.starts.len()
@@ -59,7 +58,7 @@ impl<'a> Roll<'a> {
 
     /// Text `n`.
     pub fn text(&self, n: usize) -> Option<&'a [u8]>
-        ensures { option_map (λ x. x.now) result ≡ slice_get self.now n }
+        ensures { option_map (λ x. x.now) result ≡ slice_get (viewed self.now) n }
     {
         let at = *self.starts.get(n)?;
         read_text(tail(self.bytes, at as usize)).map(|(text, _)| text)
@@ -68,7 +67,7 @@ impl<'a> Roll<'a> {
 
 /// The incoming address numbered `n`, those of To first and then those of Cc.
 pub fn address<'a>(to: &Roll<'a>, cc: &Roll<'a>, n: usize) -> Option<&'a [u8]>
-    ensures { option_map (λ x. x.now) result ≡ slice_get (to.now ++ cc.now) n }
+    ensures { option_map (λ x. x.now) result ≡ slice_get (viewed to.now ++ viewed cc.now) n }
 {
     let first = to.len();
     if n < first {

@@ -1,5 +1,5 @@
-use Rattle.std.proofs.Common.{◌≡◌, ℕ, Bool, IfSome, ◌∙◌, rules}
-use Rattle.keep_first.specs.Model.{Classes, stand_in_from}
+use Rattle.std.proofs.Common.{ℕ, Bool, rules}
+use Rattle.keep_first.specs.Model.{Classes}
 use Rattle.keep_first.proofs.KeptPlaces.{standing_is}
 use Rattle.keep_first.proofs.standing.Goals as goal
 
@@ -7,5 +7,4 @@ pub returns : goal.returns
 returns g c =
     let m : Classes = g.R.Roll.classes c.args.roll.now c.args.texts.now c.args.source.now in
     let preferred : ℕ → Bool = g.R.Roll.preferred c.args.roll.now c.args.texts.now c.args.source.now in
-    let there : IfSome c.then.result (λ k. k ≡ stand_in_from m preferred c.args.i) = search rules in
-    standing_is m preferred (g.R.Roll.alike c.args.roll.now c.args.texts.now c.args.source.now) c.args.i c.then.result (c.then.ensures.variant ∙ c.is_first.ensures) there
+    standing_is m preferred (g.R.Roll.alike c.args.roll.now c.args.texts.now c.args.source.now) c.args.i c.then.result (search rules) (search rules)

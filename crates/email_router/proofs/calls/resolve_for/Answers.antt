@@ -1,5 +1,6 @@
 use Rattle.std.proofs.Common.{length, ap, ◌∙◌, arith}
 use Rattle.std.proofs.lemmas.Result.{err_from_is_err_and}
+use Rattle.roll.specs.Views.{viewed}
 use Rattle.email_router.proofs.Accepted.{accepted, people_read, few_people, short_people, letter_read, refused_given, accepted_given}
 use Rattle.email_router.proofs.calls.resolve_for.Goals as goal
 
@@ -13,8 +14,8 @@ invariant_of-mail g c =
     let to = c.args.to.now in
     let cc = c.args.cc.now in
     let author = c.args.author.now in
-    let all = people_read to cc author c.as_slice.result.now _ _ _ c.as_slice.ensures.value c.read_people-people.ensures c.new-to.ensures.texts c.new-cc.ensures.texts in
-    let n = c.len.ensures.value ∙ ap length c.new-to.ensures.texts in
+    let all = people_read to cc author c.as_slice.result.now _ _ _ c.as_slice.ensures.value c.read_people-people.ensures (ap viewed c.new-to.ensures.bytes) (ap viewed c.new-cc.ensures.bytes) in
+    let n = c.len.ensures.value ∙ ap (λ bs. length (viewed bs)) c.new-to.ensures.bytes in
     let few = few_people to cc author c.as_slice.result.now all in
     record {
       few = omega arith;
@@ -34,8 +35,8 @@ returns g c =
     let author = c.args.author.now in
     let bot = c.args.bot.now in
     let s = c.args.scratch.now in
-    let all = people_read to cc author c.as_slice.result.now _ _ _ c.as_slice.ensures.value c.read_people-people.ensures c.new-to.ensures.texts c.new-cc.ensures.texts in
-    let n = c.len.ensures.value ∙ ap length c.new-to.ensures.texts in
+    let all = people_read to cc author c.as_slice.result.now _ _ _ c.as_slice.ensures.value c.read_people-people.ensures (ap viewed c.new-to.ensures.bytes) (ap viewed c.new-cc.ensures.bytes) in
+    let n = c.len.ensures.value ∙ ap (λ bs. length (viewed bs)) c.new-to.ensures.bytes in
     let read = letter_read to cc author bot s _ (accepted to cc author bot s c.in_ok-check.ensures) all n c.new.ensures in
     c.resolve.ensures
     ∙ accepted_given to cc author bot s c.args.tray.now (g.S.PolicySource.meaning c.args.source.now) c.args.pass _ c.in_ok-check.ensures read

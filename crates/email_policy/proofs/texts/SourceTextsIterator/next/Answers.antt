@@ -5,6 +5,13 @@ use Rattle.email_policy.proofs.FewTexts.{texts-few}
 use Rattle.email_policy.proofs.Nth.{nth_some, nth_none}
 use Rattle.email_policy.proofs.texts.SourceTextsIterator.next.Goals as goal
 
+pub returns-then-self-ge-MOST_TEXTS-clause-steps : goal.returns-then-self-ge-MOST_TEXTS-clause-steps
+returns-then-self-ge-MOST_TEXTS-clause-steps g c =
+    let s = c.args.self.now in
+    let few = texts-few (g.S.PolicySource.meaning s.source.now) (g.S.PolicySource.lawful s.source.now) s.whose s.field in
+    let d = drop_all s.next (texts_of s.field (record_of (g.S.PolicySource.meaning s.source.now) s.whose)) (omega (arith, c.if-self-ge-MOST_TEXTS.true)) in
+    (d, d)
+
 pub returns-in_err-text-clause-steps : goal.returns-in_err-text-clause-steps
 returns-in_err-text-clause-steps g c =
     let s = c.args.self.now in
